@@ -1,0 +1,51 @@
+-- `march::setting_of` meets its contract. Assumes nothing.
+use borrow.Author.Needs.{needs, sfits-of}
+use mathlib.Core.Path.{_≡_}
+use lib.IntN.{ℤ, _+ℤ_, _-ℤ_}
+use lib.Signed.{leZ-yes}
+use mir.Facts.{toZ-ofZ}
+use mir.Syntax.{w64}
+use mir.Val.{SFits}
+use Rattle.ranges.proofs.Fits.{sized-fits}
+use Rattle.forcing.specs.Quadrant.{sineOf}
+use Rattle.forcing.proofs.QuadrantLaws.{angle-fits}
+use Rattle.march.specs.March.{levelOf}
+use Rattle.march.proofs.MarchFits.{latitude-angle, level-in}
+use Rattle.march.proofs.march.setting_of.Statement.{statement}
+use Rattle.march.proofs.march.setting_of.Tie as tie
+
+module _ (s : tie.Start) where
+  latitude : SFits w64 (s .args .t .latitude)
+  latitude = angle-fits (s .args .t .latitude) (latitude-angle (s .args .t) (s .args .r) (s .pre))
+
+  friction : SFits w64 (s .args .t .friction)
+  friction = sized-fits (leZ-yes tt) (s .pre .friction)
+
+  initial : SFits w64 (s .args .t .initial)
+  initial = sized-fits (leZ-yes tt) (s .pre .initial)
+
+  tide : SFits w64 (s .args .r .tide)
+  tide = sized-fits (leZ-yes tt) (s .pre .tide)
+
+  seconds : SFits w64 (s .args .r .seconds)
+  seconds = sized-fits (leZ-yes tt) (s .pre .seconds)
+
+  level : SFits w64 (s .args .t .initial +ℤ s .args .r .tide)
+  level = sized-fits (leZ-yes tt) (level-in (s .args .t) (s .args .r) (s .pre))
+
+sine-requires : tie.Need-sine-requires
+sine-requires c κs = let s = c .before in simp (toZ-ofZ, latitude s) (latitude-angle (s .args .t) (s .args .r) (s .pre))
+
+add-t5 : tie.Need-add-t5
+add-t5 c = let s = c .before .before .before .before .before .before in simp (toZ-ofZ, initial s, tide s) (level s)
+
+returns : tie.Need-returns
+returns c =
+    let n = c .before .before .before .before .before .before in
+    let s = n .before .before in
+    let r : SFits w64 (n .sine .result) = sfits-of (n .sine .ok) in
+    let e : n .sine .result ≡ sineOf (s .args .t .latitude) = simp (toZ-ofZ, latitude s) at (n .sine .ensures) in
+    simp (toZ-ofZ, r, friction s, initial s, tide s, seconds s, level s) (simp e)
+
+pub setting-of-spec : {M : Type 1} → statement M
+setting-of-spec = tie.close (tie.spec sine-requires add-t5 returns)
