@@ -106,11 +106,12 @@ def check_lent(traverse, rows, setup, record):
 
 
 def check_record(state, record):
-    """Check 9: seconds, tide and the new elapsed time, then the points."""
+    """Check 9: seconds, tide and elapsed time, given and new, then the points."""
     seconds = LATER_SECONDS if state.accepted else FIRST_SECONDS
     if not (
         within(record.seconds, seconds)
         and within(record.tide, TIDE)
+        and within(state.elapsed, ELAPSED)
         and within(state.elapsed + record.seconds, ELAPSED)
     ):
         return Refusal(9, 0)

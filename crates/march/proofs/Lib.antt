@@ -12,4 +12,6 @@ pub mod MarchFits
 pub mod MarchLaws
 pub mod MarchSteps
 pub mod TakeLaws
+pub mod TakeRows
 pub mod Demand3
+pub mod Lists

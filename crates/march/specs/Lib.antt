@@ -13,3 +13,4 @@ pub mod Take
 pub mod TakeBounds
 pub mod Exact
 pub mod Demand3
+pub mod Lists
