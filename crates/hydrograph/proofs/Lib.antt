@@ -1,0 +1,3 @@
+-- The laws that the proofs of `hydrograph` and of the crates above cite.
+pub mod TurnLaws
+pub mod Driven

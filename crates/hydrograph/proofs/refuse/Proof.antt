@@ -1,0 +1,44 @@
+-- `hydrograph::refuse` meets its contract. Assumes nothing.
+use Rattle.hydrograph.proofs.TurnLaws.{ends-next, ends-full}
+use borrow.Author.Needs.{needs}
+use Rattle.hydrograph.proofs.refuse.Statement.{statement}
+use Rattle.hydrograph.proofs.refuse.Tie as tie
+
+put-refused-requires : tie.Need-put-refused-requires
+put-refused-requires c κs = search needs
+
+enum-known-k : tie.Need-enum-known-k
+enum-known-k c = search needs
+
+enum-told : tie.Need-enum-told
+enum-told c = search needs
+
+same-length : tie.Need-same-length
+same-length c = search needs
+
+returns : tie.Need-returns
+returns c =
+    let p = c .before .before .before .before .before in
+    let s = c .before .before .before .before .before .before .before .before in
+    ends-next (s .args .n) _ (s .args .used) (s .args .run) _ _ _ (p .put-refused .ensures) _ (c .before .k .given .1)
+
+same-length-2 : tie.Need-same-length-2
+same-length-2 c = search needs
+
+returns-2 : tie.Need-returns-2
+returns-2 c =
+    let p = c .before .before .before .before in
+    let s = c .before .before .before .before .before .before .before in
+    ends-full (s .args .n) _ (s .args .used) (s .args .run) _ _ _ (p .put-refused .ensures) (c .enum-told .given .1)
+
+pub refuse-spec : {M : Type 1} → statement M
+refuse-spec =
+    tie.close
+    (tie.spec
+    put-refused-requires
+    enum-known-k
+    enum-told
+    same-length
+    returns
+    same-length-2
+    returns-2)

@@ -1,0 +1,56 @@
+-- `read_files::put_points` meets its contract. Invariant: no more bytes wait than there is room for. Assumes nothing.
+use borrow.Author.Needs.{needs}
+use mathlib.Core.Path.{_≡_}
+use Prim.Native.Nat.{_-_, _≤_}
+use lib.ListN.{length}
+use Rattle.read_files.proofs.put_points.Statement.{statement}
+use Rattle.read_files.proofs.put_points.Tie as tie
+
+abbrev Inv-loop : tie.InvT-loop
+Inv-loop out₀ used n points u₀ i₀ out u i = (length out ≡ length out₀) × (u ≤ length out)
+
+abbrev μ-loop : tie.MeasureT-loop
+μ-loop out₀ used n points u₀ i₀ out u i = n - i
+
+loop-holds : tie.Need-loop-holds Inv-loop μ-loop
+loop-holds c = search needs
+
+mul-x : tie.Need-mul-x Inv-loop μ-loop
+mul-x c = search needs
+
+array-copy-out-x : tie.Need-array-copy-out-x Inv-loop μ-loop
+array-copy-out-x c = search needs
+
+put-point-requires : tie.Need-put-point-requires Inv-loop μ-loop
+put-point-requires c κs = search needs
+
+add-i : tie.Need-add-i Inv-loop μ-loop
+add-i c = search needs
+
+loop-less : tie.Need-loop-less Inv-loop μ-loop
+loop-less c = search needs
+
+loop-again : tie.Need-loop-again Inv-loop μ-loop
+loop-again c = search needs
+
+same-length : tie.Need-same-length Inv-loop μ-loop
+same-length c = search needs
+
+returns : tie.Need-returns Inv-loop μ-loop
+returns c = search needs
+
+pub put-points-spec : {M : Type 1} → statement M
+put-points-spec =
+    tie.close
+    (tie.spec
+    Inv-loop
+    μ-loop
+    loop-holds
+    mul-x
+    array-copy-out-x
+    put-point-requires
+    add-i
+    loop-less
+    loop-again
+    same-length
+    returns)

@@ -1,0 +1,9 @@
+pub mod Laws
+pub mod Names
+pub mod StormLaws
+pub mod TraverseLaws
+pub mod Window
+pub mod Steps
+pub mod Ends
+pub mod Windows
+pub mod Examples
