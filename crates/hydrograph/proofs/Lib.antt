@@ -1,3 +1,4 @@
 -- The laws that the proofs of `hydrograph` and of the crates above cite.
 pub mod TurnLaws
 pub mod Driven
+pub mod ReferenceRuns

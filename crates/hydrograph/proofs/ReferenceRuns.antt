@@ -1,0 +1,173 @@
+-- Document 01's "Reference runs (to be proved together, as one table with one fact over it)": every stress, sine, force, flux and gain case, the
+-- edges, and the listing from its two texts. One list of runs, each what a definition gives beside what the paper says; `reference-runs` says that
+-- the two columns are the same. Assumes nothing.
+use mathlib.Core.Path.{_≡_, refl}
+use mathlib.Core.Bool.{Bool, true, false}
+use mathlib.Core.List.{List, [], _∷_, _++_, map}
+use Prim.Native.Nat.{ℕ}
+use lib.IntN.{ℤ, pos, negsuc, _+ℤ_}
+use lib.ListN.{replicate}
+use Rattle.ranges.specs.declared.Range.{Range}
+use Rattle.ranges.specs.Fraction.{_/F_}
+use Rattle.ranges.specs.Range.{lesser, greater, nearest}
+use Rattle.ranges.specs.Quotient.{quotientLow, quotientHigh}
+use Rattle.ranges.specs.Damped.{dampedOf, dampedLeast, dampedMost, dampedLow, dampedHigh, dampedFloor, dampedCeil}
+use Rattle.forcing.specs.Sine.{scaledSine, sineEntry}
+use Rattle.forcing.specs.Quadrant.{sineOf, cosineOf}
+use Rattle.forcing.specs.Stress.{stressOf, crossOf, onshoreOf}
+use Rattle.forcing.specs.Force.{forceOf}
+use Rattle.records.specs.declared.Record.{Record}
+use Rattle.march.specs.declared.Row.{Row}
+use Rattle.march.specs.declared.Site.{Site}
+use Rattle.march.specs.declared.Load.{Load}
+use Rattle.march.specs.declared.State.{State}
+use Rattle.march.specs.declared.Step.{Step}
+use Rattle.march.specs.declared.Step.the-variants.{On, Stop}
+use Rattle.march.specs.declared.Check.{Check}
+use Rattle.march.specs.declared.Check.the-variants.{Pass, Fail}
+use Rattle.march.specs.Limits.{inside, rangeInside}
+use Rattle.march.specs.Refusals.{numberOf}
+use Rattle.march.specs.Rows.{freshRow, chosenRow}
+use Rattle.march.specs.Segment.{depthOf, fluxOf, gainOf, nextSetup, segmentOf}
+use Rattle.march.specs.Checks.{firstBad, countOk, headOk, stationOk, spacingOk, traverseCheck, openOf, placesOk, rowOk, lentCheck, timesOk, pointOk, recordCheck, checkOf}
+use Rattle.march.specs.March.{crossSum, onshoreSum, marchBy, stepAt}
+use Rattle.march.specs.Take.{heightOf, setupPlaces, takeOf}
+use Rattle.listing.specs.Decimal.{digitsOf, decimalOf}
+use Rattle.listing.specs.Decimal as decimal
+use Rattle.listing.specs.Lines.{recordLine, refusedLine}
+use Rattle.reader.specs.Text.{more, digitAt, digits, worth, goodOf, signedOf, startAt, goodAt, valueAt, pastAt, closeOf}
+use Rattle.reader.specs.Lines.{valuesAt, sameAt, linesAt, spells, namesAt}
+use Rattle.reader.specs.Storm.{stormStart, noRows, pointsOf, recordOf, counts, nextAt, stormLeft, stormRest, stormOf}
+use Rattle.reader.specs.Traverse.{noTraverse, start, withValues, keptAt, withPoint, lineAt, endAt, leftAt, restAt, traverseOf}
+use Rattle.hydrograph.specs.Listing.{recordLines, listingOf}
+
+-- ---- the table
+
+-- a number, a range, the number of a refusal (0 for none), or bytes
+pub data Value : Type 0 where
+  number : ℤ → Value
+  range : ℤ → ℤ → Value
+  refusal : ℕ → Value
+  bytes : List ℕ → Value
+
+pub record Run : Type 0 where
+  pub given : Value
+  pub paper : Value
+
+abbrev gives : Value → Value → Run
+gives given paper = record { given = given; paper = paper }
+
+abbrev ranged : Range → Value
+ranged r = range (r .low) (r .high)
+
+abbrev one : ℤ → Range
+one z = record { low = z; high = z }
+
+-- ---- what the runs are of
+
+-- "wind 1,000 at angle .. in all four places, Δt 1,800"
+abbrev force : ℤ → Value
+force angle = ranged (forceOf false (pos 1800) (crossOf (pos 1000) angle +ℤ crossOf (pos 1000) angle) (crossOf (pos 1000) angle +ℤ crossOf (pos 1000) angle))
+
+-- "κ 25", so many seconds, v, F and δ
+abbrev flux : ℤ → Range → ℤ → ℤ → Value
+flux drag v f δ = ranged (dampedOf drag v (one f) (one δ))
+
+-- "X 10, δ 5,000", s 5,000: v and Y
+abbrev gain : ℤ → ℤ → Value
+gain v onshore =
+    ranged (gainOf (record { length = pos 10; depths = pos 1000; sine = pos 5000; friction = pos 25 }) (record { seconds = pos 0; level = pos 0; deficits = pos 0; cross = pos 0; onshore = onshore }) (one v) (one (pos 5000)))
+
+-- the refusal of a still first record at the water depth 5·(sum of the depths) + level
+abbrev stepNumber : Step → Value
+stepNumber (On leg) = refusal 0
+stepNumber (Stop r) = refusal (numberOf r)
+
+abbrev still : ℤ → ℤ → Value
+still depths level =
+    stepNumber (segmentOf 1 true (record { length = pos 10; depths = depths; sine = pos 5000; friction = pos 25 }) (record { seconds = pos 0; level = level; deficits = pos 0; cross = pos 0; onshore = pos 0 }) freshRow (one (pos 0)))
+
+-- check 9 of a later record of so many seconds
+abbrev checkNumber : Check → Value
+checkNumber Pass = refusal 0
+checkNumber (Fail r) = refusal (numberOf r)
+
+abbrev lasting : ℤ → Value
+lasting seconds = checkNumber (recordCheck 0 (record { seconds = seconds; tide = pos 0; count = 0; points = [] }) (record { elapsed = pos 0; started = true }))
+
+-- ---- the two texts of the listing, and the listing
+
+abbrev traverseText : List ℕ
+traverseText =
+    -- latitude friction initial
+    (108 ∷ 97 ∷ 116 ∷ 105 ∷ 116 ∷ 117 ∷ 100 ∷ 101 ∷ 32 ∷ 102 ∷ 114 ∷ 105 ∷ 99 ∷ 116 ∷ 105 ∷ 111 ∷ 110 ∷ 32 ∷ 105 ∷ 110 ∷ 105 ∷ 116 ∷ 105 ∷ 97 ∷ 108 ∷ 10 ∷ [])
+    -- 300 25 0
+    ++ (51 ∷ 48 ∷ 48 ∷ 32 ∷ 50 ∷ 53 ∷ 32 ∷ 48 ∷ 10 ∷ [])
+    -- distance depth
+    ++ (100 ∷ 105 ∷ 115 ∷ 116 ∷ 97 ∷ 110 ∷ 99 ∷ 101 ∷ 32 ∷ 100 ∷ 101 ∷ 112 ∷ 116 ∷ 104 ∷ 10 ∷ [])
+    -- 10 500
+    ++ (49 ∷ 48 ∷ 32 ∷ 53 ∷ 48 ∷ 48 ∷ 10 ∷ [])
+    -- 0 500
+    ++ (48 ∷ 32 ∷ 53 ∷ 48 ∷ 48 ∷ 10 ∷ [])
+
+abbrev stormText : List ℕ
+stormText =
+    -- seconds tide wind angle deficit
+    (115 ∷ 101 ∷ 99 ∷ 111 ∷ 110 ∷ 100 ∷ 115 ∷ 32 ∷ 116 ∷ 105 ∷ 100 ∷ 101 ∷ 32 ∷ 119 ∷ 105 ∷ 110 ∷ 100 ∷ 32 ∷ 97 ∷ 110 ∷ 103 ∷ 108 ∷ 101 ∷ 32 ∷ 100 ∷ 101 ∷ 102 ∷ 105 ∷ 99 ∷ 105 ∷ 116 ∷ 10 ∷ [])
+    -- 0 0 1000 0 0
+    ++ (48 ∷ 32 ∷ 48 ∷ 32 ∷ 49 ∷ 48 ∷ 48 ∷ 48 ∷ 32 ∷ 48 ∷ 32 ∷ 48 ∷ 10 ∷ [])
+    -- 0 0 1000 0 0
+    ++ (48 ∷ 32 ∷ 48 ∷ 32 ∷ 49 ∷ 48 ∷ 48 ∷ 48 ∷ 32 ∷ 48 ∷ 32 ∷ 48 ∷ 10 ∷ [])
+    -- 1600 50 1000 0 0
+    ++ (49 ∷ 54 ∷ 48 ∷ 48 ∷ 32 ∷ 53 ∷ 48 ∷ 32 ∷ 49 ∷ 48 ∷ 48 ∷ 48 ∷ 32 ∷ 48 ∷ 32 ∷ 48 ∷ 10 ∷ [])
+    -- 1600 50 1000 0 0
+    ++ (49 ∷ 54 ∷ 48 ∷ 48 ∷ 32 ∷ 53 ∷ 48 ∷ 32 ∷ 49 ∷ 48 ∷ 48 ∷ 48 ∷ 32 ∷ 48 ∷ 32 ∷ 48 ∷ 10 ∷ [])
+
+abbrev listingText : List ℕ
+listingText =
+    -- seconds low high
+    (115 ∷ 101 ∷ 99 ∷ 111 ∷ 110 ∷ 100 ∷ 115 ∷ 32 ∷ 108 ∷ 111 ∷ 119 ∷ 32 ∷ 104 ∷ 105 ∷ 103 ∷ 104 ∷ 10 ∷ [])
+    -- 0 2325 2326
+    ++ (48 ∷ 32 ∷ 50 ∷ 51 ∷ 50 ∷ 53 ∷ 32 ∷ 50 ∷ 51 ∷ 50 ∷ 54 ∷ 10 ∷ [])
+    -- 1600 7302 7303
+    ++ (49 ∷ 54 ∷ 48 ∷ 48 ∷ 32 ∷ 55 ∷ 51 ∷ 48 ∷ 50 ∷ 32 ∷ 55 ∷ 51 ∷ 48 ∷ 51 ∷ 10 ∷ [])
+
+-- ---- the runs
+
+abbrev pub referenceRuns : List Run
+referenceRuns =
+    -- "q: 160 gives 281,600; 161 gives 285,156; 1,000 gives 28,640,000"
+    gives (number (stressOf (pos 160))) (number (pos 281600))
+    ∷ gives (number (stressOf (pos 161))) (number (pos 285156))
+    ∷ gives (number (stressOf (pos 1000))) (number (pos 28640000))
+    -- "Sine: 300 gives 5,000; 2,100 gives -5,000; cosine of 900 is 0"
+    ∷ gives (number (sineOf (pos 300))) (number (pos 5000))
+    ∷ gives (number (sineOf (pos 2100))) (number (negsuc 4999))
+    ∷ gives (number (cosineOf (pos 900))) (number (pos 0))
+    -- "Force, wind 1,000 at angle 900 ..: 11,089 to 11,090; at angle 2,700: -11,090 to -11,089"
+    ∷ gives (force (pos 900)) (range (pos 11089) (pos 11090))
+    ∷ gives (force (pos 2700)) (range (negsuc 11089) (negsuc 11088))
+    -- "Flux, F 0, κ 25, δ 1,000: v 1,000, Δt 1,800 gives 689 to 690; v -1,000 gives -690 to -689; v 2,500, Δt 1,600 gives 1,250 to 1,250"
+    ∷ gives (flux (pos 45000) (one (pos 1000)) (pos 0) (pos 1000)) (range (pos 689) (pos 690))
+    ∷ gives (flux (pos 45000) (one (negsuc 999)) (pos 0) (pos 1000)) (range (negsuc 689) (negsuc 688))
+    ∷ gives (flux (pos 40000) (one (pos 2500)) (pos 0) (pos 1000)) (range (pos 1250) (pos 1250))
+    -- "Flux, v from -1,000 to 1,000, F 100, κ 25, Δt 1,600, δ 100: -22 to 100"
+    ∷ gives (flux (pos 40000) (record { low = negsuc 999; high = pos 1000 }) (pos 100) (pos 100)) (range (negsuc 21) (pos 100))
+    -- "Gain, X 10, δ 5,000: s 5,000, v 10,000, Y 0 gives 274 to 275; v 0 and wind 1,000 at angle 0 at both ends gives 2,325 to 2,326"
+    ∷ gives (gain (pos 10000) (pos 0)) (range (pos 274) (pos 275))
+    ∷ gives (gain (pos 0) (onshoreOf (pos 1000) (pos 0) +ℤ onshoreOf (pos 1000) (pos 0))) (range (pos 2325) (pos 2326))
+    -- "δ 100 and 100,000 pass, 99 and 100,001 get 10"
+    ∷ gives (still (pos 0) (pos 99)) (refusal 10)
+    ∷ gives (still (pos 0) (pos 100)) (refusal 0)
+    ∷ gives (still (pos 20000) (pos 0)) (refusal 0)
+    ∷ gives (still (pos 20000) (pos 1)) (refusal 10)
+    -- "3,600 s passes, 3,601 gets 9"
+    ∷ gives (lasting (pos 3600)) (refusal 0)
+    ∷ gives (lasting (pos 3601)) (refusal 9)
+    -- "The listing, by the program, from values .."
+    ∷ gives (bytes (listingOf traverseText stormText)) (bytes listingText)
+    ∷ []
+
+pub reference-runs : map (λ (r : Run). r .given) referenceRuns ≡ map (λ (r : Run). r .paper) referenceRuns
+unfolding _/F_ lesser greater nearest quotientLow quotientHigh dampedLeast dampedMost dampedLow dampedHigh dampedFloor dampedCeil scaledSine sineEntry sineOf cosineOf stressOf crossOf onshoreOf forceOf inside rangeInside chosenRow depthOf fluxOf gainOf nextSetup segmentOf firstBad countOk headOk stationOk spacingOk traverseCheck openOf placesOk rowOk lentCheck timesOk pointOk recordCheck checkOf crossSum onshoreSum marchBy stepAt heightOf setupPlaces takeOf digitsOf decimalOf decimal.signedOf recordLine refusedLine more digitAt digits worth goodOf signedOf startAt goodAt valueAt pastAt closeOf valuesAt sameAt linesAt spells namesAt stormStart noRows pointsOf recordOf counts nextAt stormLeft stormRest stormOf noTraverse start withValues keptAt withPoint lineAt endAt leftAt restAt traverseOf recordLines listingOf
+reference-runs = refl
