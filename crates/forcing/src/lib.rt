@@ -11,3 +11,4 @@ pub use sines::sine;
 pub use stresses::cross;
 pub use stresses::onshore;
 pub use stresses::stress;
+pub use table::sine_table;

@@ -2,6 +2,7 @@
 use super::table::entry;
 ghost use mathlib.Core.Path.{_≡_};
 ghost use lib.IntN.{natAbs};
+ghost use Rattle.forcing.specs.Sine.{TableRight};
 ghost use Rattle.forcing.specs.Quadrant.{Angle, InTable, placeOf, sineOf, cosineOf};
 
 // Where an angle's sine stands in the table, and whether it is negative.
@@ -35,24 +36,24 @@ fn place_of(angle: i64) -> Place
     }
 }
 
-pub fn sine(angle: i64) -> i64
-    requires { ⌜ Angle angle ⌝ }
+pub fn sine(table: &[u16; 901], angle: i64) -> i64
+    requires { ⌜ (TableRight (now table)) × (Angle angle) ⌝ }
     ensures { λ r. ⌜ r ≡ sineOf angle ⌝ }
 {
     let place = place_of(angle);
     let at = place.at;
-    let size = entry(at);
+    let size = entry(table, at);
     if place.negative { -size } else { size }
 }
 
 // The sine a quarter turn on.
-pub fn cosine(angle: i64) -> i64
-    requires { ⌜ Angle angle ⌝ }
+pub fn cosine(table: &[u16; 901], angle: i64) -> i64
+    requires { ⌜ (TableRight (now table)) × (Angle angle) ⌝ }
     ensures { λ r. ⌜ r ≡ cosineOf angle ⌝ }
 {
     if angle < 2700 {
-        sine(angle + 900)
+        sine(table, angle + 900)
     } else {
-        sine(angle - 2700)
+        sine(table, angle - 2700)
     }
 }

@@ -2,6 +2,7 @@
 use super::sines::cosine;
 use super::sines::sine;
 ghost use mathlib.Core.Path.{_≡_};
+ghost use Rattle.forcing.specs.Sine.{TableRight};
 ghost use Rattle.forcing.specs.Quadrant.{Angle};
 ghost use Rattle.forcing.specs.Stress.{Wind, stressOf, crossOf, onshoreOf};
 
@@ -19,17 +20,17 @@ pub fn stress(w: i64) -> i64
 }
 
 // The stress across the traverse.
-pub fn cross(w: i64, angle: i64) -> i64
-    requires { ⌜ Wind w × Angle angle ⌝ }
+pub fn cross(table: &[u16; 901], w: i64, angle: i64) -> i64
+    requires { ⌜ (TableRight (now table)) × (Wind w × Angle angle) ⌝ }
     ensures { λ r. ⌜ r ≡ crossOf w angle ⌝ }
 {
-    stress(w) * sine(angle)
+    stress(w) * sine(table, angle)
 }
 
 // The stress along the traverse, toward the shore.
-pub fn onshore(w: i64, angle: i64) -> i64
-    requires { ⌜ Wind w × Angle angle ⌝ }
+pub fn onshore(table: &[u16; 901], w: i64, angle: i64) -> i64
+    requires { ⌜ (TableRight (now table)) × (Wind w × Angle angle) ⌝ }
     ensures { λ r. ⌜ r ≡ onshoreOf w angle ⌝ }
 {
-    stress(w) * cosine(angle)
+    stress(w) * cosine(table, angle)
 }

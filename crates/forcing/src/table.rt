@@ -3,24 +3,22 @@ ghost use mathlib.Core.Path.{_≡_};
 ghost use Prim.Native.Nat.{_<_};
 ghost use Rattle.forcing.specs.Sine.{sineEntry, TableRight};
 
-// Entry n of the table.
-pub fn entry(n: usize) -> i64
-    requires { ⌜ n < 901 ⌝ }
-    ensures { λ r. ⌜ r ≡ sineEntry n ⌝ }
+// The table, for a caller to keep and lend: a constant is laid down anew wherever it is named, so a march names it once a record.
+pub fn sine_table() -> [u16; 901]
+    ensures { λ r. ⌜ TableRight r ⌝ }
 {
-    look_up(&SINES, n)
+    SINES
 }
 
-// Entry n of a table whose entries are right. That those of `SINES` are is tested where it is lent.
-fn look_up(table: &[u16; 901], n: usize) -> i64
+// Entry n of a table whose entries are right.
+pub fn entry(table: &[u16; 901], n: usize) -> i64
     requires { ⌜ TableRight (now table) × (n < 901) ⌝ }
     ensures { λ r. ⌜ r ≡ sineEntry n ⌝ }
 {
     table[n] as i64
 }
 
-// Each entry is proved to be the one whole number within half a unit of 10,000 times document 01's polynomial. Sixteen bits hold it: the
-// compiler lays the table out at each reading, which the narrow one makes several times faster.
+// Each entry is proved to be the one whole number within half a unit of 10,000 times document 01's polynomial. Sixteen bits hold it.
 const SINES: [u16; 901] = [
     0,
     17,

@@ -15,6 +15,7 @@ use records::Station;
 use records::Traverse;
 ghost use mathlib.Core.Path.{_≡_};
 ghost use Prim.Native.Nat.{_+_, _-_};
+ghost use Rattle.forcing.specs.Sine.{TableRight};
 ghost use Rattle.march.specs.Rows.{chosenRow};
 ghost use Rattle.march.specs.March.{siteOf, crossSum, onshoreSum, loadOf, levelOf, settingOf, pointSegment, marchOf, told};
 ghost use Rattle.march.specs.MarchBounds.{StationIn, PointIn, PointsIn, SettingIn, MarchIn};
@@ -33,27 +34,27 @@ pub fn site_of(sine: i64, friction: i64, a: Station, b: Station) -> Site
 }
 
 // The sums over a segment's two ends of the stresses across and along the traverse.
-pub fn cross_sum(p: Point, q: Point) -> i64
-    requires { ⌜ (PointIn p) × (PointIn q) ⌝ }
+pub fn cross_sum(table: &[u16; 901], p: Point, q: Point) -> i64
+    requires { ⌜ (TableRight (now table)) × ((PointIn p) × (PointIn q)) ⌝ }
     ensures { λ r. ⌜ r ≡ crossSum p q ⌝ }
 {
-    forcing::cross(p.wind, p.angle) + forcing::cross(q.wind, q.angle)
+    forcing::cross(table, p.wind, p.angle) + forcing::cross(table, q.wind, q.angle)
 }
 
-pub fn onshore_sum(p: Point, q: Point) -> i64
-    requires { ⌜ (PointIn p) × (PointIn q) ⌝ }
+pub fn onshore_sum(table: &[u16; 901], p: Point, q: Point) -> i64
+    requires { ⌜ (TableRight (now table)) × ((PointIn p) × (PointIn q)) ⌝ }
     ensures { λ r. ⌜ r ≡ onshoreSum p q ⌝ }
 {
-    forcing::onshore(p.wind, p.angle) + forcing::onshore(q.wind, q.angle)
+    forcing::onshore(table, p.wind, p.angle) + forcing::onshore(table, q.wind, q.angle)
 }
 
 // What a record gives the segment between two of its points.
-pub fn load_of(seconds: i64, level: i64, p: Point, q: Point) -> Load
-    requires { ⌜ (PointIn p) × (PointIn q) ⌝ }
+pub fn load_of(table: &[u16; 901], seconds: i64, level: i64, p: Point, q: Point) -> Load
+    requires { ⌜ (TableRight (now table)) × ((PointIn p) × (PointIn q)) ⌝ }
     ensures { λ r. ⌜ r ≡ loadOf seconds level p q ⌝ }
 {
-    let cross = cross_sum(p, q);
-    let onshore = onshore_sum(p, q);
+    let cross = cross_sum(table, p, q);
+    let onshore = onshore_sum(table, p, q);
     Load {
         seconds: seconds,
         level: level,
@@ -75,6 +76,7 @@ pub fn chosen_row(first: bool, row: Row) -> Row
 
 // One segment from its two points.
 pub fn point_segment(
+    table: &[u16; 901],
     place: usize,
     k: Setting,
     a: Station,
@@ -84,22 +86,22 @@ pub fn point_segment(
     row: Row,
     setup: Range,
 ) -> Step
-    requires { ⌜ PointsIn k a b p q row setup ⌝ }
+    requires { ⌜ (TableRight (now table)) × (PointsIn k a b p q row setup) ⌝ }
     ensures { λ r. ⌜ r ≡ pointSegment place k a b p q row setup ⌝ }
 {
     let site = site_of(k.sine, k.friction, a, b);
-    let load = load_of(k.seconds, k.level, p, q);
+    let load = load_of(table, k.seconds, k.level, p, q);
     march_segment(place, k.first, site, load, chosen_row(k.first, row), setup)
 }
 
 // What is the same for every segment.
-pub fn setting_of(t: Traverse, r: Record, first: bool) -> Setting
-    requires { ⌜ SettingIn t r ⌝ }
+pub fn setting_of(table: &[u16; 901], t: Traverse, r: Record, first: bool) -> Setting
+    requires { ⌜ (TableRight (now table)) × (SettingIn t r) ⌝ }
     ensures { λ k. ⌜ k ≡ settingOf t r first ⌝ }
 {
     Setting {
         first: first,
-        sine: forcing::sine(t.latitude),
+        sine: forcing::sine(table, t.latitude),
         friction: t.friction,
         seconds: r.seconds,
         level: t.initial + r.tide,
@@ -112,7 +114,8 @@ pub fn march(t: Traverse, r: Record, first: bool, rows: [Row; 64]) -> Marched
     ensures { λ m. ⌜ told (t .count - 1) m ≡ marchOf t r first rows (t .count - 1) ⌝ }
 {
     let n = t.count - 1;
-    let k = setting_of(t, r, first);
+    let table = forcing::sine_table();
+    let k = setting_of(&table, t, r, first);
     let mut legs = [Leg {
         row: Row {
             low: 0,
@@ -124,6 +127,7 @@ pub fn march(t: Traverse, r: Record, first: bool, rows: [Row; 64]) -> Marched
     let mut setup = Range { low: 0, high: 0 };
     for i in 0..n {
         let step = point_segment(
+            &table,
             i + 1,
             k,
             t.stations[i],

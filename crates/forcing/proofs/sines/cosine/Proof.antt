@@ -19,22 +19,22 @@ test₂ : (c : tie.Else1) → ltZ (c .before .args .angle) (pos 2700) ≡ false
 test₂ c = let f = c .before .fits .angle in simp toZ-ofZ at (c .if1 .left)
 
 on : (c : tie.Then1) → Angle (c .before .args .angle +ℤ pos 900)
-on c = before-quarter _ (c .before .pre) (test₁ c)
+on c = before-quarter _ (c .before .pre .1) (test₁ c)
 
 back : (c : tie.Else1) → Angle (c .before .args .angle -ℤ pos 2700)
-back c = past-quarter _ (c .before .pre) (test₂ c)
+back c = past-quarter _ (c .before .pre .1) (test₂ c)
 
 add-sine : tie.Need-add-sine
 add-sine c = let f = c .before .fits .angle in simp toZ-ofZ (angle-fits _ (on c))
 
 sine-requires : tie.Need-sine-requires
-sine-requires c κs = let f = c .before .fits .angle in let g = angle-fits _ (on c) in simp toZ-ofZ (on c)
+sine-requires c κs = let f = c .before .fits .angle in let g = angle-fits _ (on c) in (c .before .pre .0, simp toZ-ofZ (on c))
 
 sub-sine : tie.Need-sub-sine
 sub-sine c = let f = c .before .fits .angle in simp toZ-ofZ (angle-fits _ (back c))
 
 sine-requires-2 : tie.Need-sine-requires-2
-sine-requires-2 c κs = let f = c .before .fits .angle in let g = angle-fits _ (back c) in simp toZ-ofZ (back c)
+sine-requires-2 c κs = let f = c .before .fits .angle in let g = angle-fits _ (back c) in (c .before .pre .0, simp toZ-ofZ (back c))
 
 returns : tie.Need-returns
 returns c =

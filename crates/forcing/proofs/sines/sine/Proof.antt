@@ -21,7 +21,7 @@ placed : (c : tie.After-place-of) → c .place-of .result ≡ placeOf (c .before
 placed c = let f = c .before .fits .angle in simp toZ-ofZ at (c .place-of .ensures)
 
 in-table : (c : tie.After-place-of) → c .place-of .result .at < 901
-in-table c = subst (λ (p : Place). p .at < 901) (sym (placed c)) (place-in (c .before .args .angle) (c .before .pre))
+in-table c = subst (λ (p : Place). p .at < 901) (sym (placed c)) (place-in (c .before .args .angle) (c .before .pre .1))
 
 sized : (c : tie.After-entry) → Sized (pos 10000) (c .entry .result)
 sized c = subst (Sized (pos 10000)) (sym (c .entry .ensures)) (entry-sized (c .before .place-of .result .at) (in-table (c .before)))
@@ -33,7 +33,7 @@ place-of-requires : tie.Need-place-of-requires
 place-of-requires c κs = search needs
 
 entry-requires : tie.Need-entry-requires
-entry-requires c κs = in-table c
+entry-requires c κs = (c .before .pre .0, in-table c)
 
 sub-result : tie.Need-sub-result
 sub-result c = let f : SFits w64 (c .before .entry .result) = sfits-of (c .before .entry .ok) in simp toZ-ofZ (minus-fits (c .before))

@@ -13,7 +13,7 @@ use Rattle.forcing.proofs.stresses.onshore.Tie as tie
 the-part : (c : tie.After-cosine) → Part (c .before .before .args .w) (cosineOf (c .before .before .args .angle)) (c .before .stress .result) (c .cosine .result)
 the-part c =
     let s = c .before .before in
-    part (s .pre .0) (cosine-sized (s .args .angle) (s .pre .1))
+    part (s .pre .1 .0) (cosine-sized (s .args .angle) (s .pre .1 .1))
     (simp (toZ-ofZ, s .fits .w) at (c .before .stress .ensures))
     (simp (toZ-ofZ, s .fits .angle) at (c .cosine .ensures))
 

@@ -20,16 +20,16 @@ onshore-sum-requires c κs = search needs
 
 module _ (s : tie.Start) where
   p-fits : SFits w64 (s .args .p .deficit)
-  p-fits = deficit-fits (s .pre .0)
+  p-fits = deficit-fits (s .pre .1 .0)
 
   q-fits : SFits w64 (s .args .q .deficit)
-  q-fits = deficit-fits (s .pre .1)
+  q-fits = deficit-fits (s .pre .1 .1)
 
   sum-fits : SFits w64 (s .args .p .deficit +ℤ s .args .q .deficit)
-  sum-fits = sized-fits (leZ-yes tt) (deficits-in (s .pre .0) (s .pre .1))
+  sum-fits = sized-fits (leZ-yes tt) (deficits-in (s .pre .1 .0) (s .pre .1 .1))
 
-add-t7 : tie.Need-add-t7
-add-t7 c = let s = c .before .before .before .before .before .before in simp (toZ-ofZ, p-fits s, q-fits s) (sum-fits s)
+add-t8 : tie.Need-add-t8
+add-t8 c = let s = c .before .before .before .before .before .before in simp (toZ-ofZ, p-fits s, q-fits s) (sum-fits s)
 
 returns : tie.Need-returns
 returns c =
@@ -40,4 +40,4 @@ returns c =
     simp (toZ-ofZ, s .fits .seconds, s .fits .level, p-fits s, q-fits s, sum-fits s, a, b) (simp (o .before .cross-sum .ensures, o .onshore-sum .ensures))
 
 pub load-of-spec : {M : Type 1} → statement M
-load-of-spec = tie.close (tie.spec cross-sum-requires onshore-sum-requires add-t7 returns)
+load-of-spec = tie.close (tie.spec cross-sum-requires onshore-sum-requires add-t8 returns)

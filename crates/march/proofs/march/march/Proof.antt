@@ -24,28 +24,31 @@ record Held (step : ℕ → Range → Step) (n : ℕ) (legs : List Leg) (s : Ran
   pub setup-in : SetupIn s
 
 abbrev Inv-loop : tie.InvT-loop
-Inv-loop first t r rows n k legs₀ setup₀ i₀ legs setup i = Held (stepAt t r first rows) n legs setup i
+Inv-loop first t r rows n table k legs₀ setup₀ i₀ legs setup i = Held (stepAt t r first rows) n legs setup i
 
 abbrev μ-loop : tie.MeasureT-loop
-μ-loop first t r rows n k legs₀ setup₀ i₀ legs setup i = n - i
+μ-loop first t r rows n table k legs₀ setup₀ i₀ legs setup i = n - i
 
 -- the call is the definition's step
 step-is : (c : tie.After-point-segment Inv-loop μ-loop) →
-    let l = c .before .before .before .before .before .before .before in
-    let s = l .before .before in
+    let l = c .before .before .before .before .before .before .before .before in
+    let s = l .before .before .before .before in
     stepAt (s .args .t1) (s .args .t2) (s .args .first) (s .args .t4) (l .loop .i) (l .loop .setup) ≡ c .point-segment .result
 unfolding stepAt
 step-is c =
-    let l = c .before .before .before .before .before .before .before in
+    let l = c .before .before .before .before .before .before .before .before in
     let g = l .before in
-    let s = g .before in
+    let s = g .before .before .before in
     sym (c .point-segment .ensures ∙ ap (λ (k : Setting). pointSegment (l .loop .i + 1) k (stationAt (s .args .t1) (l .loop .i)) (stationAt (s .args .t1) (l .loop .i + 1)) (pointAt (s .args .t2) (l .loop .i)) (pointAt (s .args .t2) (l .loop .i + 1)) (rowAt (s .args .t4) (l .loop .i)) (l .loop .setup)) (g .setting-of .ensures))
 
 sub-n : tie.Need-sub-n Inv-loop μ-loop
 sub-n c = search needs
 
+sine-table-requires : tie.Need-sine-table-requires Inv-loop μ-loop
+sine-table-requires c κs = search needs
+
 setting-of-requires : tie.Need-setting-of-requires Inv-loop μ-loop
-setting-of-requires c κs = c .pre .setting
+setting-of-requires c κs = (c .before .sine-table .ensures, c .before .before .pre .setting)
 
 loop-holds : tie.Need-loop-holds Inv-loop μ-loop
 loop-holds c = record { march = march-start _ _ _ refl refl; setup-in = nought-setup }
@@ -91,11 +94,11 @@ array-copy-out-point-segment c = search needs
 
 point-segment-requires : tie.Need-point-segment-requires Inv-loop μ-loop
 point-segment-requires c κs =
-    let l = c .before .before .before .before .before .before in
+    let l = c .before .before .before .before .before .before .before in
     let g = l .before in
-    let s = g .before in
-    let h : l .loop .i < s .args .t1 .count - 1 = c .before .before .before .before .before .loop-test .taken in
-    march-points (s .args .t1) (s .args .t2) (s .args .t4) (s .args .first) (s .pre) (l .loop .i) (omega (arith, s .pre .from)) _ (l .loop .setup) (g .setting-of .ensures) (l .loop .inv .setup-in)
+    let s = g .before .before .before in
+    let h : l .loop .i < s .args .t1 .count - 1 = c .before .before .before .before .before .before .loop-test .taken in
+    (g .before .before .sine-table .ensures, march-points (s .args .t1) (s .args .t2) (s .args .t4) (s .args .first) (s .pre) (l .loop .i) (omega (arith, s .pre .from)) _ (l .loop .setup) (g .setting-of .ensures) (l .loop .inv .setup-in))
 
 enum-known-step : tie.Need-enum-known-step Inv-loop μ-loop
 enum-known-step c = search needs
@@ -112,8 +115,8 @@ enum-known-step-2 c = search needs
 returns : tie.Need-returns Inv-loop μ-loop
 returns c =
     let b = c .before .before .before in
-    let l = b .before .before .before .before .before .before .before in
-    march-stop _ _ (l .loop .legs) (l .loop .setup) (l .loop .i) (l .loop .inv .march) _ (omega arith) (step-is b ∙ c .before .step2 .given .1)
+    let l = b .before .before .before .before .before .before .before .before in
+    march-stop _ _ (l .loop .legs) (l .loop .setup) (l .loop .i) (l .loop .inv .march) _ (omega (arith, b .before .before .before .before .before .before .before .loop-test .taken)) (step-is b ∙ c .before .step2 .given .1)
 
 add-i : tie.Need-add-i Inv-loop μ-loop
 add-i c = search needs
@@ -124,10 +127,11 @@ loop-less c = search needs
 loop-again : tie.Need-loop-again Inv-loop μ-loop
 loop-again c =
     let b = c .before .before .before .before in
-    let l = b .before .before .before .before .before .before .before in
+    let l = b .before .before .before .before .before .before .before .before in
+    let s = l .before .before .before .before in
     let e = step-is b ∙ c .before .before .step .given .1 in
     record {
-      march = march-on _ _ (l .loop .legs) (l .loop .setup) (l .loop .i) (l .loop .inv .march) _ (omega arith) (omega arith) e;
+      march = march-on _ _ (l .loop .legs) (l .loop .setup) (l .loop .i) (l .loop .inv .march) _ (omega (arith, b .before .before .before .before .before .before .before .loop-test .taken)) (omega (arith, s .pre .to, b .before .before .before .before .before .before .before .loop-test .taken)) e;
       setup-in = step-setup _ _ _ _ (l .loop .i) (l .loop .setup) _ e;
     }
 
@@ -141,6 +145,7 @@ march-spec =
     Inv-loop
     μ-loop
     sub-n
+    sine-table-requires
     setting-of-requires
     loop-holds
     add-point-segment

@@ -31,14 +31,14 @@ module _ (c : tie.After-onshore2) where
   b-fits = sfits-of (c .onshore2 .ok)
 
   a-is : c .before .before .before .onshore .result ≡ onshoreOf (start .args .p .wind) (start .args .p .angle)
-  a-is = simp (toZ-ofZ, wind-fits (start .pre .0), angle-fits (start .pre .0)) at (c .before .before .before .onshore .ensures)
+  a-is = simp (toZ-ofZ, wind-fits (start .pre .1 .0), angle-fits (start .pre .1 .0)) at (c .before .before .before .onshore .ensures)
 
   b-is : c .onshore2 .result ≡ onshoreOf (start .args .q .wind) (start .args .q .angle)
-  b-is = simp (toZ-ofZ, wind-fits (start .pre .1), angle-fits (start .pre .1)) at (c .onshore2 .ensures)
+  b-is = simp (toZ-ofZ, wind-fits (start .pre .1 .1), angle-fits (start .pre .1 .1)) at (c .onshore2 .ensures)
 
   sum-fits : SFits w64 (onshoreOf (start .args .p .wind) (start .args .p .angle) +ℤ onshoreOf (start .args .q .wind) (start .args .q .angle))
   unfolding onshoreSum
-  sum-fits = sized-fits (leZ-yes tt) (onshore-in (start .pre .0) (start .pre .1))
+  sum-fits = sized-fits (leZ-yes tt) (onshore-in (start .pre .1 .0) (start .pre .1 .1))
 
 add-result : tie.Need-add-result
 add-result c = simp (toZ-ofZ, a-fits c, b-fits c) (simp (a-is c, b-is c) (sum-fits c))

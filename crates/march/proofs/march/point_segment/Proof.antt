@@ -33,14 +33,14 @@ module _ (c : tie.After-chosen-row) where
 
   site-is : c .before .before .before .before .site-of .result ≡ siteOf (start .args .k .sine) (start .args .k .friction) (start .args .a) (start .args .b)
   site-is =
-      let f = sized-fits (leZ-yes tt) (start .pre .kept .sine) in
-      let g = sized-fits (leZ-yes tt) (start .pre .kept .friction) in
+      let f = sized-fits (leZ-yes tt) (start .pre .1 .kept .sine) in
+      let g = sized-fits (leZ-yes tt) (start .pre .1 .kept .friction) in
       simp (toZ-ofZ, f, g) at (c .before .before .before .before .site-of .ensures)
 
   load-is : c .before .load-of .result ≡ loadOf (start .args .k .seconds) (start .args .k .level) (start .args .p) (start .args .q)
   load-is =
-      let f = sized-fits (leZ-yes tt) (start .pre .kept .seconds) in
-      let g = sized-fits (leZ-yes tt) (start .pre .kept .level) in
+      let f = sized-fits (leZ-yes tt) (start .pre .1 .kept .seconds) in
+      let g = sized-fits (leZ-yes tt) (start .pre .1 .kept .level) in
       simp (toZ-ofZ, f, g) at (c .before .load-of .ensures)
 
   row-is : c .chosen-row .result ≡ chosenRow (start .args .k .first) (start .args .row)
@@ -49,7 +49,7 @@ module _ (c : tie.After-chosen-row) where
 march-segment-requires : tie.Need-march-segment-requires
 march-segment-requires c κs =
     let s = start c in
-    points-in-by (s .args .k) (s .args .a) (s .args .b) (s .args .p) (s .args .q) (s .args .row) (s .args .setup) _ _ _ (site-is c) (load-is c) (row-is c) (s .pre)
+    points-in-by (s .args .k) (s .args .a) (s .args .b) (s .args .p) (s .args .q) (s .args .row) (s .args .setup) _ _ _ (site-is c) (load-is c) (row-is c) (s .pre .1)
 
 returns : tie.Need-returns
 returns c =

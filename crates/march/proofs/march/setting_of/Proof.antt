@@ -16,28 +16,28 @@ use Rattle.march.proofs.march.setting_of.Tie as tie
 
 module _ (s : tie.Start) where
   latitude : SFits w64 (s .args .t .latitude)
-  latitude = angle-fits (s .args .t .latitude) (latitude-angle (s .args .t) (s .args .r) (s .pre))
+  latitude = angle-fits (s .args .t .latitude) (latitude-angle (s .args .t) (s .args .r) (s .pre .1))
 
   friction : SFits w64 (s .args .t .friction)
-  friction = sized-fits (leZ-yes tt) (s .pre .friction)
+  friction = sized-fits (leZ-yes tt) (s .pre .1 .friction)
 
   initial : SFits w64 (s .args .t .initial)
-  initial = sized-fits (leZ-yes tt) (s .pre .initial)
+  initial = sized-fits (leZ-yes tt) (s .pre .1 .initial)
 
   tide : SFits w64 (s .args .r .tide)
-  tide = sized-fits (leZ-yes tt) (s .pre .tide)
+  tide = sized-fits (leZ-yes tt) (s .pre .1 .tide)
 
   seconds : SFits w64 (s .args .r .seconds)
-  seconds = sized-fits (leZ-yes tt) (s .pre .seconds)
+  seconds = sized-fits (leZ-yes tt) (s .pre .1 .seconds)
 
   level : SFits w64 (s .args .t .initial +ℤ s .args .r .tide)
-  level = sized-fits (leZ-yes tt) (level-in (s .args .t) (s .args .r) (s .pre))
+  level = sized-fits (leZ-yes tt) (level-in (s .args .t) (s .args .r) (s .pre .1))
 
 sine-requires : tie.Need-sine-requires
-sine-requires c κs = let s = c .before in simp (toZ-ofZ, latitude s) (latitude-angle (s .args .t) (s .args .r) (s .pre))
+sine-requires c κs = let s = c .before in (s .pre .0, simp (toZ-ofZ, latitude s) (latitude-angle (s .args .t) (s .args .r) (s .pre .1)))
 
-add-t5 : tie.Need-add-t5
-add-t5 c = let s = c .before .before .before .before .before .before in simp (toZ-ofZ, initial s, tide s) (level s)
+add-t6 : tie.Need-add-t6
+add-t6 c = let s = c .before .before .before .before .before .before in simp (toZ-ofZ, initial s, tide s) (level s)
 
 returns : tie.Need-returns
 returns c =
@@ -48,4 +48,4 @@ returns c =
     simp (toZ-ofZ, r, friction s, initial s, tide s, seconds s, level s) (simp e)
 
 pub setting-of-spec : {M : Type 1} → statement M
-setting-of-spec = tie.close (tie.spec sine-requires add-t5 returns)
+setting-of-spec = tie.close (tie.spec sine-requires add-t6 returns)
