@@ -8,8 +8,8 @@
 # its current folder. KIND is `read` (model.refread) or `surge` (model.program).
 # First comes the fixed list, then CASES random ones made from SEED; --long adds
 # the long storms. A run that a signal ends, or that lasts too long, fails too.
-# --failing-reads adds a folder in place of each file: there the exit status
-# must not be 0 and the output must be less than that of a whole run.
+# --failing-reads adds a folder in place of each file: that must be told on
+# standard error, and no refusal be printed, which would pass for a whole run.
 # The last line is `N passed, M failed`; the exit status is 0 only where M is 0
 # and, with the fixed list, every refusal number that files can bring about has
 # occurred. (Refusal 8 cannot: the program lends rows that fit. calls.py has it.)
@@ -122,7 +122,7 @@ def run_case(command, kind, case, root, number):
     try:
         done = subprocess.run(
             command, cwd=folder, stdin=subprocess.DEVNULL, timeout=TIME_LIMIT,
-            stdout=subprocess.PIPE, stderr=subprocess.DEVNULL,
+            stdout=subprocess.PIPE, stderr=subprocess.PIPE,
         )
         wrong = judge(case, want, done)
     except subprocess.TimeoutExpired:
@@ -137,9 +137,11 @@ def judge(case, want, done):
     if done.returncode < 0:
         return "ended by signal %d" % -done.returncode
     if cases.FOLDER in (case.traverse, case.storm):
-        if done.returncode != 0 and b"refused" not in done.stdout:
+        if done.stderr and b"refused" not in done.stdout:
             return None
-        return "failing read: status %d, got %r" % (done.returncode, done.stdout[:60])
+        return "failing read: told %r, got %r" % (done.stderr[:60], done.stdout[:60])
+    if done.stderr:
+        return "told %r where nothing failed" % done.stderr[:60]
     if done.stdout == want:
         return None
     got = done.stdout

@@ -1,12 +1,12 @@
 // Reads `traverse.txt` and then `storm.txt` in the current folder through a window of 65,536 bytes, and prints what was read or the refusal.
 // A file that cannot be opened counts as empty text. A read that fails is told on standard error, and nothing more is printed.
 // What the system's read delivers is taken for the file's bytes; what is printed is tested and not proved.
+use files::Filled;
+use files::Loaded;
 use libc::STDOUT_FILENO;
 use reader::Cursor;
-use reader::Known;
 use reader::Lines;
 use reader::Next;
-use reader::Progress;
 use reader::StartStep;
 use reader::Step;
 use records::Point;
@@ -14,11 +14,10 @@ use records::Record;
 use records::Station;
 use records::Traverse;
 ghost use mathlib.Core.Path.{_≡_};
-ghost use Prim.Native.Nat.{ℕ, _+_, _-_, _<_, _≤_};
+ghost use Prim.Native.Nat.{_-_, _<_, _≤_};
 ghost use lib.ListN.{length};
 ghost use lib.IntN.{natAbs};
-ghost use Rattle.reader.specs.Text.{byte};
-ghost use Rattle.read_files.specs.Filled.{Refilled, Stands};
+ghost use Rattle.read_files.specs.Standing.{Stands};
 
 // ---- printing, by blocks of the lent buffer, of which `used` bytes wait
 
@@ -192,92 +191,6 @@ fn put_record(out: &mut [u8], used: usize, r: Record, n: usize) -> usize
     put_points(out, c, points, n)
 }
 
-// ---- windows
-
-// How a window stands after more was read: so many bytes of it hold text, and whether the text ends with them; or the read failed.
-enum Filled {
-    Holds(usize, bool),
-    Failed,
-}
-
-// Moves what is left of the window, from `at` up to `have`, to its front.
-fn shift(buf: &mut [u8], at: usize, have: usize) -> usize
-    requires { ⌜ (at ≤ have) × (have ≤ length (now buf)) ⌝ }
-    ensures { λ r. ⌜ (r ≡ have - at) × ((j : ℕ) → j < r → byte (now (buf .exit)) j ≡ byte (now (buf .entry)) (at + j)) ⌝ }
-{
-    let rest = have - at;
-    let mut i = 0;
-    while i < rest {
-        buf[i] = buf[at + i];
-        i += 1;
-    }
-    rest
-}
-
-// The window again: what was left of it at its front, and more of the file behind that. A read of no bytes is the file's end.
-fn refill(fd: i32, buf: &mut [u8], at: usize, have: usize) -> Filled
-    requires { ⌜ (at ≤ have) × (have ≤ length (now buf)) ⌝ }
-    ensures { λ r. ⌜ Refilled r (now (buf .entry)) (now (buf .exit)) at have ⌝ }
-{
-    let rest = shift(buf, at, have);
-    let got = libc::read(fd, &mut buf[rest..]);
-    if got < 0 {
-        return Filled::Failed;
-    }
-    let more = io::count(got, &buf[rest..]);
-    Filled::Holds(rest + more, more == 0)
-}
-
-// ---- the traverse
-
-// How reading a traverse text ended.
-enum Loaded {
-    Read,
-    Refused(u64, usize),
-    Failed,
-}
-
-struct Load {
-    answer: Loaded,
-    traverse: Traverse,
-}
-
-fn load_of(answer: Loaded, known: Known) -> Load {
-    let traverse = known.traverse;
-    Load { answer, traverse }
-}
-
-// Reads a traverse text to its end, or to its refusal. A file ends, though nothing here says so: the turns are counted down.
-fn load_traverse(fd: i32, buf: &mut [u8]) -> Load {
-    let mut turns: u64 = 0x100_0000_0000_0000;
-    let mut k = Known::start();
-    let mut line = 0;
-    let mut have = 0;
-    let mut last = fd < 0;
-    while turns > 0 {
-        turns -= 1;
-        let step = k.step(Cursor { at: 0, line }, &buf[..have], last);
-        let answer = step.answer;
-        k = step.known;
-        match answer {
-            Progress::Read => return load_of(Loaded::Read, k),
-            Progress::Refused(number, place) => return load_of(Loaded::Refused(number, place), k),
-            Progress::More(c) => match refill(fd, buf, c.at, have) {
-                Filled::Failed => {
-                    os::fail(b"traverse.txt");
-                    return load_of(Loaded::Failed, k);
-                }
-                Filled::Holds(n, end) => {
-                    have = n;
-                    last = end;
-                    line = c.line;
-                }
-            },
-        }
-    }
-    load_of(Loaded::Failed, k)
-}
-
 // ---- the storm
 
 // How reading a storm stands: the cursor in the window, how many bytes of it hold text, whether the text ends with them,
@@ -292,11 +205,11 @@ struct Reading {
 
 // More of the file, where the window does not hold what comes next. Where the read fails, what waits is not printed.
 fn refilled(fd: i32, buf: &mut [u8], x: Reading) -> Reading
-    requires { ⌜ Stands x (length (now buf)) (x .used) ⌝ }
+    requires { ⌜ Stands x (length (now buf)) (x .used) × (x .have - x .c .at < length (now buf)) ⌝ }
     ensures { λ r. ⌜ Stands r (length (now (buf .exit))) (x .used) ⌝ }
 {
     let c = x.c;
-    match refill(fd, buf, c.at, x.have) {
+    match files::refill(fd, buf, c.at, x.have) {
         Filled::Failed => {
             os::fail(b"storm.txt");
             Reading {
@@ -325,7 +238,7 @@ fn refilled(fd: i32, buf: &mut [u8], x: Reading) -> Reading
 
 // The names line, or more of the file.
 fn start_turn(fd: i32, buf: &mut [u8], x: Reading, out: &mut [u8]) -> Reading
-    requires { ⌜ Stands x (length (now buf)) (length (now out)) × (0 < length (now out)) ⌝ }
+    requires { ⌜ Stands x (length (now buf)) (length (now out)) × ((0 < length (now out)) × (3575 ≤ length (now buf))) ⌝ }
     ensures { λ r. ⌜ Stands r (length (now (buf .exit))) (length (now (out .exit))) ⌝ }
 {
     let old = x.c;
@@ -353,7 +266,7 @@ fn start_turn(fd: i32, buf: &mut [u8], x: Reading, out: &mut [u8]) -> Reading
 
 // The next record, printed; or more of the file; or the end.
 fn record_turn(fd: i32, buf: &mut [u8], x: Reading, n: usize, out: &mut [u8]) -> Reading
-    requires { ⌜ (n ≤ 65) × (Stands x (length (now buf)) (length (now out)) × (0 < length (now out))) ⌝ }
+    requires { ⌜ (n ≤ 65) × (Stands x (length (now buf)) (length (now out)) × ((0 < length (now out)) × (3575 ≤ length (now buf)))) ⌝ }
     ensures { λ r. ⌜ Stands r (length (now (buf .exit))) (length (now (out .exit))) ⌝ }
 {
     let c = x.c;
@@ -391,7 +304,7 @@ fn record_turn(fd: i32, buf: &mut [u8], x: Reading, n: usize, out: &mut [u8]) ->
 
 // One turn: the names line before any line was read, else the next record.
 fn turn(fd: i32, buf: &mut [u8], x: Reading, n: usize, out: &mut [u8]) -> Reading
-    requires { ⌜ (n ≤ 65) × (Stands x (length (now buf)) (length (now out)) × (0 < length (now out))) ⌝ }
+    requires { ⌜ (n ≤ 65) × (Stands x (length (now buf)) (length (now out)) × ((0 < length (now out)) × (3575 ≤ length (now buf)))) ⌝ }
     ensures { λ r. ⌜ Stands r (length (now (buf .exit))) (length (now (out .exit))) ⌝ }
 {
     let c = x.c;
@@ -403,7 +316,7 @@ fn turn(fd: i32, buf: &mut [u8], x: Reading, n: usize, out: &mut [u8]) -> Readin
 
 // Prints record after record, to the end or to the refusal, and answers how many bytes wait. The turns are counted down here too.
 fn print_storm(fd: i32, buf: &mut [u8], n: usize, out: &mut [u8], used: usize) -> usize
-    requires { ⌜ (n ≤ 65) × ((used ≤ length (now out)) × (0 < length (now out))) ⌝ }
+    requires { ⌜ (n ≤ 65) × ((used ≤ length (now out)) × ((0 < length (now out)) × (3575 ≤ length (now buf)))) ⌝ }
     ensures { λ r. ⌜ r ≤ length (now (out .exit)) ⌝ }
 {
     let mut turns: u64 = 0x100_0000_0000_0000;
@@ -426,15 +339,9 @@ fn print_storm(fd: i32, buf: &mut [u8], n: usize, out: &mut [u8], used: usize) -
 
 // ---- the program
 
-fn flush(out: &[u8], used: usize)
-    requires { ⌜ used ≤ length (now out) ⌝ }
-{
-    io::write_all(STDOUT_FILENO, &out[..used]);
-}
-
 // Prints the traverse and then the storm, or check 5's refusal.
 fn print_run(buf: &mut [u8], t: Traverse, out: &mut [u8]) -> usize
-    requires { ⌜ 0 < length (now out) ⌝ }
+    requires { ⌜ (0 < length (now out)) × (3575 ≤ length (now buf)) ⌝ }
     ensures { λ r. ⌜ r ≤ length (now (out .exit)) ⌝ }
 {
     let n = t.count;
@@ -454,22 +361,20 @@ fn print_run(buf: &mut [u8], t: Traverse, out: &mut [u8]) -> usize
 }
 
 fn run(buf: &mut [u8], out: &mut [u8])
-    requires { ⌜ 0 < length (now out) ⌝ }
+    requires { ⌜ (0 < length (now out)) × (3575 ≤ length (now buf)) ⌝ }
 {
-    let fd = os::open_read(b"traverse.txt");
-    let load = load_traverse(fd, buf);
-    libc::close(fd);
+    let load = files::read_traverse(buf);
     let answer = load.answer;
     let t = load.traverse;
     match answer {
         Loaded::Failed => {}
         Loaded::Refused(number, place) => {
             let a = put_refused(out, 0, number, place);
-            flush(out, a);
+            files::flush(out, a);
         }
         Loaded::Read => {
             let a = print_run(buf, t, out);
-            flush(out, a);
+            files::flush(out, a);
         }
     }
 }

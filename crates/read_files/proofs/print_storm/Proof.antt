@@ -2,7 +2,7 @@
 use borrow.Author.Needs.{needs}
 use mathlib.Core.Path.{_≡_}
 use lib.ListN.{length}
-use Rattle.read_files.specs.Filled.{Stands}
+use Rattle.read_files.specs.Standing.{Stands}
 use Rattle.read_files.proofs.print_storm.Statement.{statement}
 use Rattle.read_files.proofs.print_storm.Tie as tie
 

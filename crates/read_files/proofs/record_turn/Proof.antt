@@ -7,6 +7,7 @@ use lib.Seq.{length-take-le}
 use denote.Ref.{now}
 use Rattle.reader.specs.declared.storm.RecordStep.{RecordStep}
 use Rattle.reader.specs.declared.storm.Step.the-variants as step
+use Rattle.files.proofs.Asks.{AsksRecord, record-asks}
 use Rattle.reader.proofs.Ends.{Answered, record-stands}
 use borrow.Author.Needs.{needs}
 use Rattle.read_files.proofs.record_turn.Statement.{statement}
@@ -25,7 +26,12 @@ enum-told : tie.Need-enum-told
 enum-told c = search needs
 
 refilled-requires : tie.Need-refilled-requires
-refilled-requires c κs = search needs
+refilled-requires c κs =
+    let s = c .before .before .before .before .before .before .before .before .before in
+    let w = take (s .args .x .have) (now (s .args .buf)) in
+    let e = length-take-le (s .args .x .have) (now (s .args .buf)) (s .pre .1 .0 .held) in
+    let y = subst (AsksRecord (length w) (s .args .x .c .at)) (ap (λ (y : RecordStep). y .answer) (sym (c .before .before .before .before .record-step .ensures)) ∙ c .before .enum-told .given .1) (record-asks w (s .args .x .last) (s .args .n) (s .args .x .c .at) (s .args .x .c .line)) in
+    (search needs, omega arith)
 
 enum-known-answer : tie.Need-enum-known-answer
 enum-known-answer c = search needs

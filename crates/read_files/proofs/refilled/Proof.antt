@@ -1,9 +1,9 @@
 -- `read_files::refilled` meets its contract. Assumes nothing.
-use Rattle.read_files.specs.declared.Filled.{Filled}
+use Rattle.files.specs.declared.Filled.{Filled}
 use native.Mathlib.Omega.{arith}
 use mathlib.Core.Path.{subst}
 use denote.Ref.{now}
-use Rattle.read_files.specs.Filled.{Refilled}
+use Rattle.files.specs.Filled.{Refilled}
 use borrow.Author.Needs.{needs}
 use Rattle.read_files.proofs.refilled.Statement.{statement}
 use Rattle.read_files.proofs.refilled.Tie as tie

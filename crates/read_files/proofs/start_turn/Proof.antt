@@ -4,6 +4,7 @@ use mathlib.Core.Path.{sym, _∙_, subst}
 use lib.ListN.{length, take}
 use lib.Seq.{length-take-le}
 use denote.Ref.{now}
+use Rattle.files.proofs.Asks.{AsksStart, start-asks}
 use Rattle.reader.proofs.Ends.{Stays, Begun, start-begun}
 use borrow.Author.Needs.{needs}
 use Rattle.read_files.proofs.start_turn.Statement.{statement}
@@ -22,7 +23,12 @@ enum-told : tie.Need-enum-told
 enum-told c = search needs
 
 refilled-requires : tie.Need-refilled-requires
-refilled-requires c κs = search needs
+refilled-requires c κs =
+    let s = c .before .before .before .before .before .before .before .before in
+    let w = take (s .args .x .have) (now (s .args .buf)) in
+    let e = length-take-le (s .args .x .have) (now (s .args .buf)) (s .pre .0 .held) in
+    let y = subst (AsksStart (length w)) (sym (c .before .before .before .storm-start-step .ensures) ∙ c .before .enum-told .given .1) (start-asks w (s .args .x .last)) in
+    (search needs, omega arith)
 
 enum-known-answer : tie.Need-enum-known-answer
 enum-known-answer c = search needs

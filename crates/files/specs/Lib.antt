@@ -1,0 +1,2 @@
+-- The root of the definitions of `files`: what a refilled window holds.
+pub mod Filled

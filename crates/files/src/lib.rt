@@ -1,0 +1,125 @@
+// What the programs share: a file's text through a window that the caller lends, the whole of `traverse.txt` read by windows, and the output.
+// Assumed, and said by no contract, since none can speak of what the system reads: `libc::read` delivers the file's bytes in order, and
+// where it is asked for one byte or more, a read of 0 bytes is the file's end. A read or a write that fails is told on standard error.
+use libc::STDOUT_FILENO;
+use reader::Cursor;
+use reader::Known;
+use reader::Progress;
+use records::Traverse;
+ghost use mathlib.Core.Path.{_≡_};
+ghost use Prim.Native.Nat.{ℕ, _+_, _-_, _<_, _≤_};
+ghost use lib.ListN.{length};
+ghost use Rattle.reader.specs.Text.{byte};
+ghost use Rattle.files.specs.Filled.{Refills, Refilled};
+
+// ---- windows
+
+// How a window stands after more was read: so many bytes of it hold text, and whether the text ends with them; or the read failed.
+pub enum Filled {
+    Holds(usize, bool),
+    Failed,
+}
+
+// Moves what is left of the window, from `at` up to `have`, to its front.
+fn shift(buf: &mut [u8], at: usize, have: usize) -> usize
+    requires { ⌜ (at ≤ have) × (have ≤ length (now buf)) ⌝ }
+    ensures { λ r. ⌜ (r ≡ have - at) × ((j : ℕ) → j < r → byte (now (buf .exit)) j ≡ byte (now (buf .entry)) (at + j)) ⌝ }
+{
+    let rest = have - at;
+    let mut i = 0;
+    while i < rest {
+        buf[i] = buf[at + i];
+        i += 1;
+    }
+    rest
+}
+
+// The window again: what was left of it at its front, and more of the file behind that. What was left is less than the window, so that the
+// read asks for one byte or more, and a read of no bytes is the file's end.
+pub fn refill(fd: i32, buf: &mut [u8], at: usize, have: usize) -> Filled
+    requires { ⌜ Refills at have (length (now buf)) ⌝ }
+    ensures { λ r. ⌜ Refilled r (now (buf .entry)) (now (buf .exit)) at have ⌝ }
+{
+    let rest = shift(buf, at, have);
+    let got = libc::read(fd, &mut buf[rest..]);
+    if got < 0 {
+        return Filled::Failed;
+    }
+    let more = io::count(got, &buf[rest..]);
+    Filled::Holds(rest + more, more == 0)
+}
+
+// ---- the traverse
+
+// How reading a traverse text ended.
+pub enum Loaded {
+    Read,
+    Refused(u64, usize),
+    Failed,
+}
+
+pub struct Load {
+    pub answer: Loaded,
+    pub traverse: Traverse,
+}
+
+fn load_of(answer: Loaded, known: Known) -> Load {
+    let traverse = known.traverse;
+    Load { answer, traverse }
+}
+
+// Reads a traverse text to its end, or to its refusal. A file ends, though nothing here says so: the turns are counted down.
+fn load_traverse(fd: i32, buf: &mut [u8]) -> Load
+    requires { ⌜ 33 ≤ length (now buf) ⌝ }
+{
+    let mut turns: u64 = 0x100_0000_0000_0000;
+    let mut k = Known::start();
+    let mut line = 0;
+    let mut have = 0;
+    let mut last = fd < 0;
+    while turns > 0 {
+        turns -= 1;
+        let step = k.step(Cursor { at: 0, line }, &buf[..have], last);
+        let answer = step.answer;
+        k = step.known;
+        match answer {
+            Progress::Read => return load_of(Loaded::Read, k),
+            Progress::Refused(number, place) => return load_of(Loaded::Refused(number, place), k),
+            Progress::More(c) => match refill(fd, buf, c.at, have) {
+                Filled::Failed => {
+                    os::fail(b"traverse.txt");
+                    return load_of(Loaded::Failed, k);
+                }
+                Filled::Holds(n, end) => {
+                    have = n;
+                    last = end;
+                    line = c.line;
+                }
+            },
+        }
+    }
+    load_of(Loaded::Failed, k)
+}
+
+// Reads `traverse.txt` in the current folder. A file that cannot be opened counts as empty text.
+pub fn read_traverse(buf: &mut [u8]) -> Load
+    requires { ⌜ 33 ≤ length (now buf) ⌝ }
+{
+    let fd = os::open_read(b"traverse.txt");
+    let load = load_traverse(fd, buf);
+    libc::close(fd);
+    load
+}
+
+// ---- the output
+
+// Writes the first `used` bytes to standard output, and answers whether that was done.
+pub fn flush(out: &[u8], used: usize) -> bool
+    requires { ⌜ used ≤ length (now out) ⌝ }
+{
+    let done = io::write_all(STDOUT_FILENO, &out[..used]);
+    if !done {
+        os::fail(b"standard output");
+    }
+    done
+}

@@ -1,0 +1,2 @@
+-- The laws that the proofs of `surge` cite.
+pub mod TurnEnds

@@ -1,0 +1,5 @@
+pub mod Loads
+pub mod Stores
+pub mod Calls
+pub mod Again
+pub mod Places

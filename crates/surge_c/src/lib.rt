@@ -1,0 +1,10 @@
+// The march for programs in other languages: opening a traverse and taking a record, on numbers and slices of numbers.
+// Here numbers become the march's values and its values become numbers; every check is the march's own. `include/surge.h` says the same
+// for C. No call has a `requires`: each promises one equation for what it returns and for everything lent, whatever it is given.
+
+mod calls;
+mod loads;
+mod stores;
+
+pub use calls::fennhop_open_traverse;
+pub use calls::fennhop_take_record;
