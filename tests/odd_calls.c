@@ -156,6 +156,6 @@ int main(void)
     accepted();
     started();
     ends();
-    printf("odd calls: %d passed, %d failed\n", made - failed, failed);
+    printf("%d passed, %d failed\n", made - failed, failed);
     return failed != 0;
 }

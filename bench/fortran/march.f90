@@ -1,5 +1,5 @@
 ! The same march in double precision, as a Fortran model would do it: document 01's formulas on real numbers, no ranges, no checks. Sines come
-! from a table of all tenths of a degree, filled once. Units are document 01's.
+! from a table of all tenths of a degree, filled once and rounded to whole numbers as document 01's table is. Units are document 01's.
 module plain_march
   use, intrinsic :: iso_c_binding, only: c_int64_t, c_double
   implicit none
@@ -12,7 +12,7 @@ contains
   subroutine plain_start() bind(c)
     integer :: a
     do a = 0, 4499
-      sines(a) = 10000d0 * sin(a * pi / 1800d0)
+      sines(a) = anint(10000d0 * sin(a * pi / 1800d0))
     end do
   end subroutine
 
