@@ -5,23 +5,7 @@
 from model import fast, program
 
 from .run import Run
-from .values import near_nought, outcome_with
-
-
-def split_at(run, place, near, far):
-    """Both sides of the change of outcome between two values of one number."""
-    here = outcome_with(run, place, near)
-    while abs(far - near) > 1:
-        middle = (near + far) // 2
-        if outcome_with(run, place, middle) == here:
-            near = middle
-        else:
-            far = middle
-    pair = []
-    for value in (near, far):
-        place[0][place[1]] = value
-        pair.append(run.copy())
-    return pair
+from .values import near_nought, outcome_with, split_at
 
 
 def setup_try(rng, way):

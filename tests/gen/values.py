@@ -173,6 +173,22 @@ def outcome_with(run, place, value):
     return outcome
 
 
+def split_at(run, place, near, far):
+    """Both sides of the change of outcome between two values of one number."""
+    here = outcome_with(run, place, near)
+    while abs(far - near) > 1:
+        middle = (near + far) // 2
+        if outcome_with(run, place, middle) == here:
+            near = middle
+        else:
+            far = middle
+    pair = []
+    for value in (near, far):
+        place[0][place[1]] = value
+        pair.append(run.copy())
+    return pair
+
+
 def neighbours(rng, run):
     """Two runs that differ by one unit in one number and have different
     outcomes, on both sides of whatever limit lies that way; or none."""
@@ -181,20 +197,9 @@ def neighbours(rng, run):
     place = (holder, index)
     near = holder[index]
     far = rng.choice((limits[0] - 1, limits[1] + 1, limits[0], limits[1]))
-    here = outcome_with(run, place, near)
-    if outcome_with(run, place, far) == here:
+    if outcome_with(run, place, far) == outcome_with(run, place, near):
         return []
-    while abs(far - near) > 1:
-        middle = (near + far) // 2
-        if outcome_with(run, place, middle) == here:
-            near = middle
-        else:
-            far = middle
-    made = []
-    for value in (near, far):
-        holder[index] = value
-        made.append(run.copy())
-    return made
+    return split_at(run, place, near, far)
 
 
 # Faults in values. Each changes the run where it stands.
