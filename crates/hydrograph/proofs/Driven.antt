@@ -1,13 +1,13 @@
--- Turn after turn on any windows of the storm text, wide enough and enough of them, says just the storm's lines. Assumes nothing.
+-- Turn after turn on any windows of the storm text, with enough among them that show what comes next, says just the storm's lines. Assumes nothing.
 use mathlib.Core.Path.{_≡_, refl, sym, ap, subst, _∙_}
 use mathlib.Core.Bool.{Bool, true, false, cond}
 use mathlib.Core.List.{List, [], _∷_, _++_}
 use native.Mathlib.Omega.{arith}
 use Prim.Native.Nat.{ℕ, zero, suc, _+_, _-_, _*_, _≤_, _<_}
-use lib.Dec.{ltb, eqb}
+use lib.Dec.{ltb, leb, eqb}
 use lib.ListN.{length, take, replicate}
 use lib.IntN.{ℤ}
-use borrow.Author.Tests.{ltb-true, ltb-false}
+use borrow.Author.Tests.{ltb-true, ltb-false, leb-true, le-leb}
 use Rattle.records.specs.declared.Traverse.{Traverse}
 use Rattle.records.specs.declared.Record.{Record}
 use Rattle.listing.specs.Lines.{namesLine, recordLine, refusedLine}
@@ -20,12 +20,12 @@ use Rattle.reader.specs.Lines.{Outcome, read, refused, onward, Line, full, bad,
 use Rattle.reader.specs.Storm.{Further, one, none, noRows, recordOf, counts, nextAt, recordRead, stormNames, stormStart, Storm, with, none-more, stormBy, stormRest, stormFrom, stormOf, startStep, holdsRecord, recordStep}
 use Rattle.reader.specs.Storm as storm
 use Rattle.reader.specs.Traverse.{start, traverseOf, traverseRead}
-use Rattle.reader.specs.Window.{moved, Cut, fromOf, windowOf, lastOf, Wide, wide}
+use Rattle.reader.specs.Window.{moved, Cut, fromOf, windowOf, lastOf, shownBy, enough}
 use Rattle.reader.proofs.Ends.{Stays, start-stays, Read-on, next-on}
 use Rattle.reader.proofs.StormLaws.{counts-in}
 use Rattle.reader.proofs.Window.{shows-cut}
 use Rattle.reader.proofs.Steps.{start-window, next-window, storm-once}
-use Rattle.reader.proofs.Windows.{cut-holds, back, traverse-finishes}
+use Rattle.reader.proofs.Windows.{cut-holds, enough-most, not-counted, back, traverse-finishes}
 use Rattle.march.specs.declared.Row.{Row}
 use Rattle.march.specs.declared.State.{State}
 use Rattle.march.specs.declared.Check.{Check}
@@ -116,28 +116,36 @@ said-read (read (one r) a l) t st rows = refl
 said-read (read none a l) t st rows = refl
 said-read (refused m p) t st rows = refl
 
--- a window of 3,640 bytes from the place on holds a record of 65 points, and a names line
-record-held : (s : List ℕ) (c : Cut) (at n : ℕ) → at ≤ length s → c .back + 3640 ≤ c .size → holdsRecord (length (windowOf s c at)) (lastOf s c at) n (at - fromOf c at) ≡ true
+-- a window that shows 3,640 bytes from the place on shows fewer too
+fewer : (c : Cut) (need : ℕ) → need ≤ 3640 → shownBy 3640 c ≡ true → shownBy need c ≡ true
+fewer c need h e = go (c .told) e
+  where
+    go : (b : Bool) → pick b (leb (c .back + 3640) (c .size)) false ≡ true → pick b (leb (c .back + need) (c .size)) false ≡ true
+    go true e = let q = leb-true (c .back + 3640) (c .size) e in le-leb (c .back + need) (c .size) (omega arith)
+    go false e = e
+
+-- it holds a record of 65 points
+record-held : (s : List ℕ) (c : Cut) (at n : ℕ) → at ≤ length s → shownBy 3640 c ≡ true → holdsRecord (length (windowOf s c at)) (lastOf s c at) n (at - fromOf c at) ≡ true
 unfolding holdsRecord
 record-held s c at n h w = go (counts n) (counts-in n)
   where
     go : (b : Bool) → (b ≡ true → (2 ≤ n) × (n ≤ 65)) → pick b (holds (length (windowOf s c at)) (lastOf s c at) (at - fromOf c at) (n * 55)) true ≡ true
-    go true f = let i = f refl in cut-holds s c at h (n * 55) (omega (arith, i .1))
+    go true f = let i = f refl in cut-holds s c at h (n * 55) (fewer c (n * 55) (omega (arith, i .1)) w)
     go false f = refl
 
-record-said : (s : List ℕ) (t : Traverse) (c : Cut) (at line : ℕ) (st : State) (rows : List Row) → at ≤ length s → c .back + 3640 ≤ c .size → 0 < line →
-    turnOf t (windowOf s c at) (lastOf s c at) (at - fromOf c at) line st rows ≡ saidNext (nextAt (windowOf s c at) (t .count) (at - fromOf c at) line) t st rows
+-- a turn says what the window has next where it holds a record, and asks for more where not
+record-said : (t : Traverse) (w : List ℕ) (last : Bool) (at line : ℕ) (st : State) (rows : List Row) → 0 < line → (b : Bool) → holdsRecord (length w) last (t .count) at ≡ b →
+    turnOf t w last at line st rows ≡ pick b (saidNext (nextAt w (t .count) at line) t st rows) Said.more
 unfolding recordStep
-record-said s t c at line st rows h w l =
-    turn-record t (windowOf s c at) (lastOf s c at) (at - fromOf c at) line st rows (λ z. omega arith)
-    ∙ rw (record-held s c at (t .count) h w) (said-read (nextAt (windowOf s c at) (t .count) (at - fromOf c at) line) t st rows)
+record-said t w last at line st rows l true e = turn-record t w last at line st rows (λ z. omega arith) ∙ rw e (said-read (nextAt w (t .count) at line) t st rows)
+record-said t w last at line st rows l false e = turn-record t w last at line st rows (λ z. omega arith) ∙ rw e refl
 
 -- ---- the records from a place on
 
 module _ (s : List ℕ) (t : Traverse) where
   -- by what the whole text has next: a record's line and the rest, or the end
   abbrev From : List Cut → Type 0
-  From cuts = (at line : ℕ) (st : State) (rows : List Row) → at ≤ length s → 0 < line → length s < at + length cuts → driveFrom s t cuts at line st rows ≡ finished (stormLines t st rows (stormRest s (t .count) at line))
+  From cuts = (at line : ℕ) (st : State) (rows : List Row) → at ≤ length s → 0 < line → length s < at + enough 3640 cuts → driveFrom s t cuts at line st rows ≡ finished (stormLines t st rows (stormRest s (t .count) at line))
 
   -- a record that was taken
   by-taken : (cuts : List Cut) (told : Told) (o at line a l : ℕ) (st st′ : State) (rows rows′ : List Row) (rest : Storm) →
@@ -146,7 +154,7 @@ module _ (s : List ℕ) (t : Traverse) where
   by-taken cuts (answers.accepted elapsed low high) o at line a l st st′ rows rows′ rest e = ap (also (recordLine elapsed low high)) e
   by-taken cuts (answers.refused number place) o at line a l st st′ rows rows′ rest e = refl
 
-  by-next : (cuts : List Cut) (o at line : ℕ) (st : State) (rows : List Row) (r : Outcome Further) → From cuts → Read-on (at + 1) (length s) (moved o r) → Counted (moved o r) → length s < at + suc (length cuts) →
+  by-next : (cuts : List Cut) (o at line : ℕ) (st : State) (rows : List Row) (r : Outcome Further) → From cuts → Read-on (at + 1) (length s) (moved o r) → Counted (moved o r) → length s < at + suc (enough 3640 cuts) →
       driveOn (saidNext r t st rows) o at line st rows (driveFrom s t cuts) ≡ finished (stormLines t st rows (stormBy (moved o r) (stormRest s (t .count))))
   unfolding recordLines
   by-next cuts o at line st rows (read (one r) a l) ih z k f =
@@ -155,24 +163,39 @@ module _ (s : List ℕ) (t : Traverse) where
   by-next cuts o at line st rows (read none a l) ih z k f = refl
   by-next cuts o at line st rows (refused m p) ih z k f = refl
 
-  records-driven : (cuts : List Cut) → Wide 3640 cuts → From cuts
+  records-driven : (cuts : List Cut) → From cuts
   unfolding driveFrom
-  records-driven [] v at line st rows h l f = absurd (omega arith)
-  records-driven (c ∷ cuts) (wide b v) at line st rows h l f =
-      let o = fromOf c at in
-      let w = windowOf s c at in
-      let r = nextAt w (t .count) (at - o) line in
-      let held = record-held s c at (t .count) h b in
-      let same : nextAt s (t .count) at line ≡ moved o r
-      = ap (λ (a : ℕ). nextAt s (t .count) a line) (sym (back s c at h)) ∙ next-window s w o (lastOf s c at) (shows-cut s c at h) (t .count) (at - o) line held in
-      rw (record-said s t c at line st rows h b)
-      (by-next cuts o at line st rows r (records-driven cuts v) (subst (Read-on (at + 1) (length s)) same (next-on s (t .count) at line h)) (subst Counted same (next-counted s (t .count) at line l)) f
-      ∙ ap (λ (x : Outcome Further). finished (stormLines t st rows (stormBy x (stormRest s (t .count))))) (sym same)
-      ∙ ap (λ (x : Storm). finished (stormLines t st rows x)) (sym (storm-once s (t .count) at line h)))
+  records-driven [] at line st rows h l f = absurd (unfold enough in omega arith)
+  records-driven (c ∷ cuts) at line st rows h l f = go (holdsRecord (length w) last (t .count) (at - o)) refl (records-driven cuts)
+    where
+      o : ℕ
+      o = fromOf c at
+
+      w : List ℕ
+      w = windowOf s c at
+
+      last : Bool
+      last = lastOf s c at
+
+      r : Outcome Further
+      r = nextAt w (t .count) (at - o) line
+
+      go : (b : Bool) → holdsRecord (length w) last (t .count) (at - o) ≡ b → From cuts →
+          driveOn (turnOf t w last (at - o) line st rows) o at line st rows (driveFrom s t cuts) ≡ finished (stormLines t st rows (stormRest s (t .count) at line))
+      go true held ih =
+          let same : nextAt s (t .count) at line ≡ moved o r
+          = ap (λ (a : ℕ). nextAt s (t .count) a line) (sym (back s c at h)) ∙ next-window s w o last (shows-cut s c at h) (t .count) (at - o) line held in
+          rw (record-said t w last (at - o) line st rows l true held)
+          (by-next cuts o at line st rows r ih (subst (Read-on (at + 1) (length s)) same (next-on s (t .count) at line h)) (subst Counted same (next-counted s (t .count) at line l)) (omega (arith, enough-most 3640 c cuts))
+          ∙ ap (λ (x : Outcome Further). finished (stormLines t st rows (stormBy x (stormRest s (t .count))))) (sym same)
+          ∙ ap (λ (x : Storm). finished (stormLines t st rows x)) (sym (storm-once s (t .count) at line h)))
+      go false held ih =
+          rw (record-said t w last (at - o) line st rows l false held)
+          (ih at line st rows h l (omega (arith, not-counted 3640 c cuts (holdsRecord (length w) last (t .count) (at - o)) (record-held s c at (t .count) h) held)))
 
   -- ---- the names line, and then the records
 
-  by-start : (cuts : List Cut) (st : State) (rows : List Row) (r : Lines) → From cuts → Stays (length s) r → CountedLines r → length s < length cuts →
+  by-start : (cuts : List Cut) (st : State) (rows : List Row) (r : Lines) → From cuts → Stays (length s) r → CountedLines r → length s < enough 3640 cuts →
       driveOn (saidStart (start-step.Answer r)) 0 0 0 st rows (driveFrom s t cuts) ≡ finished (stormLines t st rows (stormFrom r (stormRest s (t .count))))
   unfolding recordLines
   by-start cuts st rows (Read d) ih z k f = let e : 0 + d .at ≡ d .at = omega arith in rw e (ih (d .at) (d .line) st rows z k (omega arith))
@@ -180,15 +203,28 @@ module _ (s : List ℕ) (t : Traverse) where
 
 pub storm-driven : StormDriven
 unfolding driveFrom startStep stormOf
-storm-driven s t [] st rows v f = absurd (omega arith)
-storm-driven s t (c ∷ cuts) st rows (wide b v) f =
-    let w = windowOf s c 0 in
-    let y : 0 - fromOf c 0 ≡ 0 = omega arith in
-    let held : holds (length w) (lastOf s c 0) 0 32 ≡ true = subst (λ (x : ℕ). holds (length w) (lastOf s c 0) x 32 ≡ true) y (cut-holds s c 0 (omega arith) 32 (omega arith)) in
-    let same : stormStart s ≡ stormStart w = start-window s w (fromOf c 0) (lastOf s c 0) (shows-cut s c 0 (omega arith)) (omega arith) held in
-    let z : fromOf c 0 ≡ 0 = omega arith in
-    rw (turn-start t w (lastOf s c 0) (0 - fromOf c 0) 0 st rows refl, held, ← same, z)
-    (by-start s t cuts st rows (stormStart s) (records-driven s t cuts v) (start-stays s) (start-counted s) (omega arith))
+storm-driven s t [] st rows f = absurd (unfold enough in omega arith)
+storm-driven s t (c ∷ cuts) st rows f = go (holds (length w) last 0 32) refl (storm-driven s t cuts st rows)
+  where
+    w : List ℕ
+    w = windowOf s c 0
+
+    last : Bool
+    last = lastOf s c 0
+
+    shown : shownBy 3640 c ≡ true → holds (length w) last 0 32 ≡ true
+    shown e = let y : 0 - fromOf c 0 ≡ 0 = omega arith in subst (λ (x : ℕ). holds (length w) last x 32 ≡ true) y (cut-holds s c 0 (omega arith) 32 (fewer c 32 (omega arith) e))
+
+    go : (b : Bool) → holds (length w) last 0 32 ≡ b → (length s + 1 < enough 3640 cuts → driveFrom s t cuts 0 0 st rows ≡ finished (stormLines t st rows (stormOf s (t .count)))) →
+        driveOn (turnOf t w last (0 - fromOf c 0) 0 st rows) (fromOf c 0) 0 0 st rows (driveFrom s t cuts) ≡ finished (stormLines t st rows (stormOf s (t .count)))
+    go true held ih =
+        let same : stormStart s ≡ stormStart w = start-window s w (fromOf c 0) last (shows-cut s c 0 (omega arith)) (omega arith) held in
+        let z : fromOf c 0 ≡ 0 = omega arith in
+        rw (turn-start t w last (0 - fromOf c 0) 0 st rows refl, held, ← same, z)
+        (by-start s t cuts st rows (stormStart s) (records-driven s t cuts) (start-stays s) (start-counted s) (omega (arith, enough-most 3640 c cuts)))
+    go false held ih =
+        rw (turn-start t w last (0 - fromOf c 0) 0 st rows refl, held)
+        (ih (omega (arith, not-counted 3640 c cuts (holds (length w) last 0 32) shown held)))
 
 -- ---- both files
 
@@ -211,11 +247,11 @@ opened-count t e = go (traverseCheck mostPoints t) refl e
     go Pass f g = traverse-in mostPoints t f .to
     go (Fail refusal) f g = absurd (let z : _≡_ {A = ℕ} 0 1 = cc in omega arith)
 
-module _ (s : List ℕ) (cuts : List Cut) (v : Wide 3640 cuts) (f : length s + 1 < length cuts) where
+module _ (s : List ℕ) (cuts : List Cut) (f : length s + 1 < enough 3640 cuts) where
   by-opening : (t : Traverse) (told : ToldOpen) → openOf t .answer ≡ told → afterOpened (saidOpen told t (openOf t .state)) t s cuts ≡ finished (afterOpening told (openOf t .state) t (stormOf s (t .count)))
   by-opening t opened e =
       let c = opened-count t e in
-      rw (fresh-take (t .count - 1) 64 (omega arith)) (ap (also namesLine) (storm-driven s t cuts (openOf t .state) (freshRows t) v f))
+      rw (fresh-take (t .count - 1) 64 (omega arith)) (ap (also namesLine) (storm-driven s t cuts (openOf t .state) (freshRows t) f))
   by-opening t (notOpened number place) e = refl
 
   by-traverse : (x : Outcome Traverse) → afterWhole (traverseRead x .answer) (traverseRead x .traverse) s cuts ≡ finished (afterTraverse x s)
@@ -225,4 +261,4 @@ module _ (s : List ℕ) (cuts : List Cut) (v : Wide 3640 cuts) (f : length s + 1
 
 pub listing-driven : ListingDriven
 unfolding driveAll listingOf
-listing-driven tt cutsT s cuts w g v f = rw (traverse-finishes tt cutsT w g) (by-traverse s cuts v f (traverseOf tt))
+listing-driven tt cutsT s cuts g f = rw (traverse-finishes tt cutsT g) (by-traverse s cuts f (traverseOf tt))

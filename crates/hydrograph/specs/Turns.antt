@@ -22,7 +22,7 @@ use Rattle.reader.specs.Storm.{Storm, stormOf, startStep, recordStep}
 use Rattle.reader.specs.declared.traverse.Whole.{Whole}
 use Rattle.reader.specs.declared.traverse.Whole.the-variants as whole
 use Rattle.reader.specs.Traverse.{start, traverseOf}
-use Rattle.reader.specs.Window.{Cut, fromOf, windowOf, lastOf, Wide, traverseRun}
+use Rattle.reader.specs.Window.{Cut, fromOf, windowOf, lastOf, enough, traverseRun}
 use Rattle.reader.specs.Window as window
 use Rattle.march.specs.declared.Row.{Row}
 use Rattle.march.specs.declared.State.{State}
@@ -176,16 +176,16 @@ afterRun (window.going k at line) s cuts = record { bytes = []; finished = false
 unfoldable pub driveAll : List ℕ → List Cut → List ℕ → List Cut → Driven
 driveAll tt cutsT s cuts = afterRun (traverseRun tt cutsT start 0 0) s cuts
 
--- ---- the statements, proved in `proofs/Driven.antt`: windows that are wide enough, and enough of them
+-- ---- the statements, proved in `proofs/Driven.antt`: any windows, and among them enough that show a record, or the end and that it is the end
 
 -- the turns on a storm text say just its lines
 abbrev pub StormDriven : Type 0
 StormDriven =
-    (s : List ℕ) (t : Traverse) (cuts : List Cut) (st : State) (rows : List Row) → Wide 3640 cuts → length s + 1 < length cuts →
+    (s : List ℕ) (t : Traverse) (cuts : List Cut) (st : State) (rows : List Row) → length s + 1 < enough 3640 cuts →
     driveFrom s t cuts 0 0 st rows ≡ record { bytes = stormLines t st rows (stormOf s (t .count)); finished = true }
 
 -- and on both files just the listing
 abbrev pub ListingDriven : Type 0
 ListingDriven =
-    (tt : List ℕ) (cutsT : List Cut) (s : List ℕ) (cuts : List Cut) → Wide 33 cutsT → length tt < length cutsT → Wide 3640 cuts → length s + 1 < length cuts →
+    (tt : List ℕ) (cutsT : List Cut) (s : List ℕ) (cuts : List Cut) → length tt < enough 33 cutsT → length s + 1 < enough 3640 cuts →
     driveAll tt cutsT s cuts ≡ record { bytes = listingOf tt s; finished = true }

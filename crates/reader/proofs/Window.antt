@@ -7,7 +7,7 @@ use native.Mathlib.Omega.{arith}
 use native.Mathlib.Nat.{add-assoc, suc-mul}
 use lib.ListN.{length, set, take, drop, length-take, length-drop, List·getD-eq-default}
 use lib.Seq.{getD-take, getD-drop}
-use lib.Dec.{ltb, eqb}
+use lib.Dec.{ltb, leb, eqb}
 use lib.IntN.{ℤ}
 use borrow.Author.Tests.{lt-ltb, le-ltb, ltb-true, ltb-false, leb-true}
 use Rattle.reader.specs.Text.{pick, more, byte, digitAt, digits, worth, negativeAt, startAt, goodAt, valueAt, pastAt, closeOf}
@@ -218,5 +218,9 @@ shows-cut s c at h =
     record {
       within = simp (length-take, length-drop) (omega arith);
       bytes = λ j p. sym (rw (getD-take (c .size) (drop (at - c .back) s) j 0 (omega (arith, simp (length-take, length-drop) at p)), getD-drop));
-      ends = λ e. let q = leb-true (length s) (at - c .back + c .size) e in simp (length-take, length-drop) (omega arith);
+      ends = λ e. let q = leb-true (length s) (at - c .back + c .size) (told (c .told) e) in simp (length-take, length-drop) (omega arith);
     }
+  where
+    told : (b : Bool) → pick b (leb (length s) (fromOf c at + c .size)) false ≡ true → leb (length s) (fromOf c at + c .size) ≡ true
+    told true e = e
+    told false e = absurd (let z : _≡_ {A = ℕ} 0 1 = cc in omega arith)

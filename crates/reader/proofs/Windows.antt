@@ -2,17 +2,17 @@
 use mathlib.Core.Path.{_≡_, refl, sym, ap, _∙_, subst}
 use mathlib.Core.Bool.{Bool, true, false}
 use mathlib.Core.List.{List, [], _∷_}
-use Prim.Native.Nat.{ℕ, _+_, _-_, _*_, _<_, _≤_}
+use Prim.Native.Nat.{ℕ, suc, _+_, _-_, _*_, _<_, _≤_}
 use native.Mathlib.Omega.{arith}
 use lib.ListN.{length, length-take, length-drop}
 use lib.Dec.{leb}
-use borrow.Author.Tests.{leb-false, le-leb}
+use borrow.Author.Tests.{leb-true, leb-false, le-leb}
 use Rattle.records.specs.declared.Record.{Record}
 use Rattle.reader.specs.Text.{pick}
 use Rattle.reader.specs.Lines.{Outcome, read, refused, holds}
 use Rattle.reader.specs.Storm.{stormStart, Further, one, none, counts, nextAt, Stop, over, stopped, paused, unread, Storm, with, stormBy, stormRest, stormFrom, stormOf, startStep, holdsRecord, recordStep}
 use Rattle.reader.specs.Traverse.{start, restAt, traverseOf, traverseRead, traverseStep}
-use Rattle.reader.specs.Window.{carriedBy, Cut, fromOf, windowOf, lastOf, done, runOn, traverseRun, stormOn, stormRun, startOn, stormTextRun, traverseDone, stormDoneBy, stormDone, Wide, wide, TraverseByWindows, StormByWindows, StormTextByWindows, TraverseFinishes, StormFinishes}
+use Rattle.reader.specs.Window.{carriedBy, Cut, fromOf, windowOf, lastOf, done, runOn, traverseRun, stormOn, stormRun, startOn, stormTextRun, traverseDone, stormDoneBy, stormDone, shownBy, enough, TraverseByWindows, StormByWindows, StormTextByWindows, TraverseFinishes, StormFinishes}
 use Rattle.reader.specs.declared.traverse.Known.{Known}
 use Rattle.reader.specs.declared.traverse.TraverseRead.{TraverseRead}
 use Rattle.reader.specs.declared.traverse.Progress.{Progress}
@@ -34,16 +34,41 @@ module _ (s : List ℕ) (c : Cut) (at : ℕ) (h : at ≤ length s) where
   cut-end : fromOf c at + length (windowOf s c at) ≤ length s
   cut-end = simp (length-take, length-drop) (omega arith)
 
-  -- it holds so many bytes from the place on where it is that wide, or is the last
-  pub cut-holds : (need : ℕ) → c .back + need ≤ c .size → holds (length (windowOf s c at)) (lastOf s c at) (at - fromOf c at) need ≡ true
+  -- it holds so many bytes from the place on where it shows them, or the end
+  pub cut-holds : (need : ℕ) → shownBy need c ≡ true → holds (length (windowOf s c at)) (lastOf s c at) (at - fromOf c at) need ≡ true
   unfolding holds
-  cut-holds need w = go (lastOf s c at) refl
+  cut-holds need e = by (c .told) e
     where
-      go : (b : Bool) → lastOf s c at ≡ b → pick b true (leb (at - fromOf c at + need) (length (windowOf s c at))) ≡ true
-      go true e = refl
-      go false e =
+      reaches : (b : Bool) → leb (length s) (fromOf c at + c .size) ≡ b → c .back + need ≤ c .size →
+          pick b true (leb (at - fromOf c at + need) (length (windowOf s c at))) ≡ true
+      reaches true e w = refl
+      reaches false e w =
           let q = leb-false (length s) (fromOf c at + c .size) e in
           le-leb (at - fromOf c at + need) (length (windowOf s c at)) (simp (length-take, length-drop) (omega arith))
+
+      by : (b : Bool) → pick b (leb (c .back + need) (c .size)) false ≡ true →
+          pick (pick b (leb (length s) (fromOf c at + c .size)) false) true (leb (at - fromOf c at + need) (length (windowOf s c at))) ≡ true
+      by true e = reaches (leb (length s) (fromOf c at + c .size)) refl (leb-true (c .back + need) (c .size) e)
+      by false e = absurd (let z : _≡_ {A = ℕ} 0 1 = cc in omega arith)
+
+-- ---- the windows that are counted
+
+pub enough-most : (need : ℕ) (c : Cut) (cuts : List Cut) → enough need (c ∷ cuts) ≤ suc (enough need cuts)
+unfolding enough
+enough-most need c cuts = go (shownBy need c)
+  where
+    go : (b : Bool) → pick b (suc (enough need cuts)) (enough need cuts) ≤ suc (enough need cuts)
+    go true = omega arith
+    go false = omega arith
+
+-- one that does not hold what it would show is not counted
+pub not-counted : (need : ℕ) (c : Cut) (cuts : List Cut) (b : Bool) → (shownBy need c ≡ true → b ≡ true) → b ≡ false → enough need (c ∷ cuts) ≡ enough need cuts
+unfolding enough
+not-counted need c cuts b f e = go (shownBy need c) f
+  where
+    go : (x : Bool) → (x ≡ true → b ≡ true) → pick x (suc (enough need cuts)) (enough need cuts) ≡ enough need cuts
+    go true g = let y : b ≡ true = g refl in absurd (let z : _≡_ {A = ℕ} 0 1 = cc in omega arith)
+    go false g = refl
 
 -- ---- a traverse text
 
@@ -65,22 +90,31 @@ module _ (s : List ℕ) where
       go (progress.More d) k ih q = ih k (fromOf c at + d .at) (d .line) (omega arith)
       go (progress.Refused n p) k ih q = refl
 
-  traverse-all : (cuts : List Cut) (k : Known) (at line : ℕ) → at ≤ length s → Wide 33 cuts → length s < at + length cuts → traverseRun s cuts k at line ≡ done (traverseRead (restAt s k at line))
-  unfolding traverseRun
-  traverse-all [] k at line h v e = absurd (omega arith)
-  traverse-all (c ∷ cuts) k at line h (wide b v) e =
+  -- a window that is counted takes reading at least one byte on, any other at least no byte back
+  traverse-all : (cuts : List Cut) (k : Known) (at line : ℕ) → at ≤ length s → length s < at + enough 33 cuts → traverseRun s cuts k at line ≡ done (traverseRead (restAt s k at line))
+  unfolding traverseRun enough
+  traverse-all [] k at line h e = absurd (omega arith)
+  traverse-all (c ∷ cuts) k at line h e =
       let o = fromOf c at in
       let x = traverseStep (windowOf s c at) (lastOf s c at) k (at - o) line in
-      go (x .answer) (x .known) (λ k a l p q. traverse-all cuts k a l p v q)
-      (traverse-moves (windowOf s c at) (lastOf s c at) (length s - o) (omega (arith, cut-end s c at h)) k (at - o) line (cut-holds s c at h 33 b))
+      by (shownBy 33 c) refl e (x .answer) (x .known) (λ k a l p q. traverse-all cuts k a l p q)
+      (traverse-stands (windowOf s c at) (lastOf s c at) (length s - o) (omega (arith, cut-end s c at h)) k (at - o) line (omega arith))
+      (λ q. traverse-moves (windowOf s c at) (lastOf s c at) (length s - o) (omega (arith, cut-end s c at h)) k (at - o) line (cut-holds s c at h 33 q))
       ∙ ap (λ (r : TraverseRead). done r) (traverse-window s (windowOf s c at) o (lastOf s c at) (shows-cut s c at h) k (at - o) line ∙ ap (λ (a : ℕ). traverseRead (restAt s k a line)) (back s c at h))
     where
-      go : (p : Progress) (k : Known)
-          → ((k : Known) (a l : ℕ) → a ≤ length s → length s < a + length cuts → traverseRun s cuts k a l ≡ done (traverseRead (restAt s k a l)))
-          → Stands (at - fromOf c at + 1) (length s - fromOf c at) p → runOn (fromOf c at) p k (traverseRun s cuts) ≡ done (carriedBy s (fromOf c at) p k)
-      go progress.Read k ih q = refl
-      go (progress.More d) k ih q = ih k (fromOf c at + d .at) (d .line) (omega arith) (omega arith)
-      go (progress.Refused n p) k ih q = refl
+      go : (m : ℕ) (p : Progress) (k : Known) → length s < at + (m + enough 33 cuts)
+          → ((k : Known) (a l : ℕ) → a ≤ length s → length s < a + enough 33 cuts → traverseRun s cuts k a l ≡ done (traverseRead (restAt s k a l)))
+          → Stands (at - fromOf c at + m) (length s - fromOf c at) p → runOn (fromOf c at) p k (traverseRun s cuts) ≡ done (carriedBy s (fromOf c at) p k)
+      go m progress.Read k f ih q = refl
+      go m (progress.More d) k f ih q = ih k (fromOf c at + d .at) (d .line) (omega arith) (omega arith)
+      go m (progress.Refused n p) k f ih q = refl
+
+      by : (b : Bool) → shownBy 33 c ≡ b → length s < at + pick b (suc (enough 33 cuts)) (enough 33 cuts) → (p : Progress) (k : Known)
+          → ((k : Known) (a l : ℕ) → a ≤ length s → length s < a + enough 33 cuts → traverseRun s cuts k a l ≡ done (traverseRead (restAt s k a l)))
+          → Stands (at - fromOf c at) (length s - fromOf c at) p → (shownBy 33 c ≡ true → Stands (at - fromOf c at + 1) (length s - fromOf c at) p)
+          → runOn (fromOf c at) p k (traverseRun s cuts) ≡ done (carriedBy s (fromOf c at) p k)
+      by true e f p k ih u v = go 1 p k (omega arith) ih (v e)
+      by false e f p k ih u v = go 0 p k (omega arith) ih (subst (λ (x : ℕ). Stands x (length s - fromOf c at) p) (omega arith) u)
 
 pub traverse-by-windows : TraverseByWindows
 unfolding traverseOf
@@ -88,7 +122,7 @@ traverse-by-windows s cuts = traverse-from s cuts start 0 0 (omega arith)
 
 pub traverse-finishes : TraverseFinishes
 unfolding traverseOf
-traverse-finishes s cuts v e = traverse-all s cuts start 0 0 (omega arith) v (omega arith)
+traverse-finishes s cuts e = traverse-all s cuts start 0 0 (omega arith) (omega arith)
 
 -- ---- a storm text
 
@@ -130,34 +164,40 @@ module _ (s : List ℕ) (n : ℕ) where
       go true ih = by (nextAt s n at line) (next-on s n at line h) ih ∙ sym (storm-once s n at line h)
       go false ih = ih at line h
 
-  wide-holds : (c : Cut) (at : ℕ) → at ≤ length s → c .back + n * 55 ≤ c .size → holdsRecord (length (windowOf s c at)) (lastOf s c at) n (at - fromOf c at) ≡ true
+  shown-holds : (c : Cut) (at : ℕ) → at ≤ length s → shownBy (n * 55) c ≡ true → holdsRecord (length (windowOf s c at)) (lastOf s c at) n (at - fromOf c at) ≡ true
   unfolding holdsRecord
-  wide-holds c at h b = go (counts n)
+  shown-holds c at h b = go (counts n)
     where
       go : (x : Bool) → pick x (holds (length (windowOf s c at)) (lastOf s c at) (at - fromOf c at) (n * 55)) true ≡ true
       go true = cut-holds s c at h (n * 55) b
       go false = refl
 
-  storm-all : (cuts : List Cut) (at line : ℕ) → at ≤ length s → Wide (n * 55) cuts → length s < at + length cuts → stormRun s n cuts at line ≡ stormRest s n at line
+  storm-all : (cuts : List Cut) (at line : ℕ) → at ≤ length s → length s < at + enough (n * 55) cuts → stormRun s n cuts at line ≡ stormRest s n at line
   unfolding stormRun
-  storm-all [] at line h v e = absurd (omega arith)
-  storm-all (c ∷ cuts) at line h (wide b v) e =
+  storm-all [] at line h e = absurd (unfold enough in omega arith)
+  storm-all (c ∷ cuts) at line h e =
       cut-step c at line h (stormRun s n cuts)
-      ∙ ap (λ (x : Bool). pick x (stormBy (nextAt s n at line) (stormRun s n cuts)) (stormRun s n cuts at line)) (wide-holds c at h b)
-      ∙ by (nextAt s n at line) (next-on s n at line h) (λ a l p q. storm-all cuts a l p v q)
-      ∙ sym (storm-once s n at line h)
+      ∙ go (holdsRecord (length (windowOf s c at)) (lastOf s c at) n (at - fromOf c at)) refl (λ a l p q. storm-all cuts a l p q)
     where
-      by : (r : Outcome Further) → Read-on (at + 1) (length s) r → ((a l : ℕ) → a ≤ length s → length s < a + length cuts → stormRun s n cuts a l ≡ stormRest s n a l)
+      by : (r : Outcome Further) → Read-on (at + 1) (length s) r → ((a l : ℕ) → a ≤ length s → length s < a + enough (n * 55) cuts → stormRun s n cuts a l ≡ stormRest s n a l)
           → stormBy r (stormRun s n cuts) ≡ stormBy r (stormRest s n)
-      by (read (one r) a l) z ih = ap (with r) (ih a l (omega arith) (omega arith))
+      by (read (one r) a l) z ih = ap (with r) (ih a l (omega arith) (omega (arith, enough-most (n * 55) c cuts)))
       by (read none a l) z ih = refl
       by (refused m p) z ih = refl
+
+      go : (b : Bool) → holdsRecord (length (windowOf s c at)) (lastOf s c at) n (at - fromOf c at) ≡ b
+          → ((a l : ℕ) → a ≤ length s → length s < a + enough (n * 55) cuts → stormRun s n cuts a l ≡ stormRest s n a l)
+          → pick b (stormBy (nextAt s n at line) (stormRun s n cuts)) (stormRun s n cuts at line) ≡ stormRest s n at line
+      go true f ih = by (nextAt s n at line) (next-on s n at line h) ih ∙ sym (storm-once s n at line h)
+      go false f ih =
+          ih at line h
+          (omega (arith, not-counted (n * 55) c cuts (holdsRecord (length (windowOf s c at)) (lastOf s c at) n (at - fromOf c at)) (shown-holds c at h) f))
 
 pub storm-by-windows : StormByWindows
 storm-by-windows s n cuts at line h = storm-from s n cuts at line h
 
 pub storm-finishes : StormFinishes
-storm-finishes s n cuts at line h v e = storm-all s n cuts at line h v e
+storm-finishes s n cuts at line h e = storm-all s n cuts at line h e
 
 -- the names line, and then the records
 storm-text-from : (s : List ℕ) (n : ℕ) (cuts : List Cut) → stormDone s n (stormTextRun s n cuts) ≡ stormOf s n

@@ -1,13 +1,13 @@
 -- Reading through windows. A window is a part of the text; `last` says whether the text ends with it.
 -- What a step finds in a window is said of the whole text, and reading by any windows is defined. Assumes nothing.
 use mathlib.Core.Path.{_≡_}
-use mathlib.Core.Bool.{Bool, true}
+use mathlib.Core.Bool.{Bool, true, false}
 use mathlib.Core.List.{List, [], _∷_, _++_}
-use Prim.Native.Nat.{ℕ, _+_, _-_, _*_, _<_, _≤_}
+use Prim.Native.Nat.{ℕ, suc, _+_, _-_, _*_, _<_, _≤_}
 use lib.ListN.{length, take, drop}
 use lib.Dec.{leb}
 use Rattle.records.specs.declared.Record.{Record}
-use Rattle.reader.specs.Text.{byte}
+use Rattle.reader.specs.Text.{pick, byte}
 use Rattle.reader.specs.Lines.{Outcome, read, refused, holds}
 use Rattle.reader.specs.Storm.{Stop, over, stopped, paused, unread, Storm, none-more, with, stormStart, stormRest, stormOf, startStep, recordStep}
 use Rattle.reader.specs.Traverse.{noTraverse, start, restAt, traverseOf, traverseRead, traverseStep}
@@ -46,10 +46,12 @@ carried s o r = carriedBy s o (r .answer) (r .known)
 
 -- ---- any windows, one after another
 
--- a window by how far it reaches back before the place where reading stands, and by its size at most
+-- a window by how far it reaches back before the place where reading stands, by its size at most, and by whether the text's end is told
+-- where it reaches that far: a program sees that a file has ended only by reading once more
 pub record Cut : Type 0 where
   pub back : ℕ
   pub size : ℕ
+  pub told : Bool
 
 abbrev pub fromOf : Cut → ℕ → ℕ
 fromOf c at = at - c .back
@@ -58,7 +60,7 @@ abbrev pub windowOf : List ℕ → Cut → ℕ → List ℕ
 windowOf s c at = take (c .size) (drop (fromOf c at) s)
 
 abbrev pub lastOf : List ℕ → Cut → ℕ → Bool
-lastOf s c at = leb (length s) (fromOf c at + c .size)
+lastOf s c at = pick (c .told) (leb (length s) (fromOf c at + c .size)) false
 
 -- ---- a traverse text
 
@@ -149,15 +151,18 @@ StormByWindows = (s : List ℕ) (n : ℕ) (cuts : List Cut) (at line : ℕ) → 
 abbrev pub StormTextByWindows : Type 0
 StormTextByWindows = (s : List ℕ) (n : ℕ) (cuts : List Cut) → stormDone s n (stormTextRun s n cuts) ≡ stormOf s n
 
--- windows that each show so many bytes from the place on
-pub data Wide (need : ℕ) : List Cut → Type 0 where
-  no-cuts : Wide need []
-  wide : {c : Cut} {cuts : List Cut} → c .back + need ≤ c .size → Wide need cuts → Wide need (c ∷ cuts)
+-- how many of the windows show so many bytes from the place on, or the end and that it is the end; the others may be of any kind
+abbrev pub shownBy : ℕ → Cut → Bool
+shownBy need c = pick (c .told) (leb (c .back + need) (c .size)) false
 
--- as many windows as the text has bytes, and one more, finish it where each is wide enough for a line
+unfoldable pub enough : ℕ → List Cut → ℕ
+enough need [] = 0
+enough need (c ∷ cuts) = pick (shownBy need c) (suc (enough need cuts)) (enough need cuts)
+
+-- as many windows that show a line as the text has bytes, and one more, finish it
 abbrev pub TraverseFinishes : Type 0
-TraverseFinishes = (s : List ℕ) (cuts : List Cut) → Wide 33 cuts → length s < length cuts → traverseRun s cuts start 0 0 ≡ done (traverseRead (traverseOf s))
+TraverseFinishes = (s : List ℕ) (cuts : List Cut) → length s < enough 33 cuts → traverseRun s cuts start 0 0 ≡ done (traverseRead (traverseOf s))
 
--- and a storm where each is wide enough for a record
+-- and a storm where they show a record
 abbrev pub StormFinishes : Type 0
-StormFinishes = (s : List ℕ) (n : ℕ) (cuts : List Cut) (at line : ℕ) → at ≤ length s → Wide (n * 55) cuts → length s < at + length cuts → stormRun s n cuts at line ≡ stormRest s n at line
+StormFinishes = (s : List ℕ) (n : ℕ) (cuts : List Cut) (at line : ℕ) → at ≤ length s → length s < at + enough (n * 55) cuts → stormRun s n cuts at line ≡ stormRest s n at line

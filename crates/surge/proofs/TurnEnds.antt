@@ -1,6 +1,6 @@
 -- A turn leaves the cursor within the window and its place within the buffer, and it asks for more of the text only
 -- where the window has room for more. Assumes nothing.
-use mathlib.Core.Path.{_≡_, refl, sym, ap, subst}
+use mathlib.Core.Path.{_≡_, refl, sym, ap, subst, _∙_}
 use mathlib.Core.Bool.{Bool, true, false, cond}
 use mathlib.Core.List.{List}
 use native.Mathlib.Omega.{arith}
@@ -32,6 +32,8 @@ use Rattle.hydrograph.specs.declared.Turn.{Turn}
 use Rattle.hydrograph.specs.declared.Turn.the-variants as turn
 use Rattle.hydrograph.specs.declared.Run.{Run}
 use Rattle.hydrograph.specs.declared.Turned.{Turned}
+use Rattle.surge.specs.declared.March.{March}
+use Rattle.surge.specs.Standing.{Carries, Moves, Moved}
 use Rattle.hydrograph.specs.Listing.{takenBy}
 use Rattle.hydrograph.specs.Turns.{Said, more, reads, says, ends, over, saidTaken, saidStep, saidStart, startTurn, recordTurn, turnOf, LeftTurn, saysPut, endsPut, printed, printedFrom, freshRun, saidOpen, beginOf, leftTurn}
 
@@ -144,3 +146,21 @@ module _ (t : Traverse) (used : ℕ) (out out′ : List ℕ) (x : Turned) (u : u
   begin-ends e =
       subst (Ends 0 (length out)) (sym e)
       (printed-ends 0 used 0 0 (freshRun .state) (take (t .count - 1) (freshRun .rows)) out (omega arith) u (beginOf t) (begin-within t))
+
+-- ---- what a turn does, from the case of the answer y
+
+module _ (n : ℕ) (y : Turned) (out : List ℕ) (r : March) where
+  pub carries : (run : Run) → r .run ≡ run → run .cursor .line ≡ y .run .cursor .line → run .state ≡ y .run .state → run .rows ≡ y .run .rows
+      → Carries n (leftTurn n y out) (run .cursor .at) r
+  carries run e f g h =
+      record {
+        place = ap (λ (z : Run). z .cursor .at) e;
+        line = ap (λ (z : Run). z .cursor .line) e ∙ f;
+        state = ap (λ (z : Run). z .state) e ∙ g;
+        rows = ap (λ (z : Run). take n (z .rows)) e ∙ ap (take n) h;
+      }
+
+pub moved : (n : ℕ) (y : Turned) (out′ : List ℕ) (l : LeftTurn) → leftTurn n y out′ ≡ l → (k : Turn) → y .turn ≡ k
+    → (x r : March) → Moves k n (leftTurn n y out′) x r → Moved n l x r out′
+moved n y out′ l e k f x r m =
+    subst (λ (z : LeftTurn). Moved n z x r out′) e (record { buffer = refl; moves = subst (λ (z : Turn). Moves z n (leftTurn n y out′) x r) (sym f) m })

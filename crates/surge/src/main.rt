@@ -10,10 +10,13 @@ use reader::Cursor;
 use records::Traverse;
 ghost use mathlib.Core.Bool.{true, false};
 ghost use mathlib.Core.Path.{_≡_};
-ghost use Prim.Native.Nat.{_≤_};
+ghost use Prim.Native.Nat.{_-_, _≤_};
 ghost use lib.ListN.{length};
+ghost use Rattle.listing.specs.declared.Put.the-variants.{Next};
+ghost use Rattle.listing.specs.Lines.{refusedLine};
+ghost use Rattle.listing.specs.Put.{given, putOf};
 ghost use Rattle.files.specs.Filled.{Refills};
-ghost use Rattle.surge.specs.Standing.{Stands, frontOf, Follows};
+ghost use Rattle.surge.specs.Standing.{Stands, frontOf, Follows, turnOn, Moved};
 
 // How the march stands between two turns: the run, whose cursor is in the window; how many bytes of the window hold text, and whether the
 // text ends with them; how many bytes wait to be printed; and whether it goes on.
@@ -55,7 +58,7 @@ fn stopped(run: Run) -> March
 // More of the storm, where the window does not hold what comes next.
 fn refilled(fd: i32, buf: &mut [u8], run: Run, have: usize, used: usize) -> March
     requires { ⌜ Refills (run .cursor .at) have (length (now buf)) ⌝ }
-    ensures { λ r. ⌜ Stands r (length (now (buf .exit))) used × (r .on ≡ true → Follows r run have (now (buf .entry)) (now (buf .exit))) ⌝ }
+    ensures { λ r. ⌜ Stands r (length (now (buf .exit))) used × (r .on ≡ true → Follows r run have used (now (buf .entry)) (now (buf .exit))) ⌝ }
 {
     let cursor = run.cursor;
     match files::refill(fd, buf, cursor.at, have) {
@@ -76,7 +79,7 @@ fn refilled(fd: i32, buf: &mut [u8], run: Run, have: usize, used: usize) -> Marc
 // What waits is written, and the turn is made again with the whole buffer.
 fn emptied(out: &[u8], run: Run, have: usize, last: bool, used: usize) -> March
     requires { ⌜ (run .cursor .at ≤ have) × (used ≤ length (now out)) ⌝ }
-    ensures { λ r. ⌜ Stands r have 0 ⌝ }
+    ensures { λ r. ⌜ Stands r have 0 × (r .on ≡ true → r ≡ record { run = run; have = have; last = last; used = 0; on = true }) ⌝ }
 {
     if !files::flush(out, used) {
         return stopped(run);
@@ -93,7 +96,7 @@ fn emptied(out: &[u8], run: Run, have: usize, last: bool, used: usize) -> March
 // One turn, and what it asks for.
 fn turn(fd: i32, buf: &mut [u8], t: Traverse, x: March, out: &mut [u8]) -> March
     requires { ⌜ Stands x (length (now buf)) (length (now out)) × (3575 ≤ length (now buf)) ⌝ }
-    ensures { λ r. ⌜ Stands r (length (now (buf .exit))) (length (now (out .exit))) ⌝ }
+    ensures { λ r. ⌜ Stands r (length (now (buf .exit))) (length (now (out .exit))) × Moved (t .count - 1) (turnOn t x (now (buf .entry)) (now (out .entry))) x r (now (out .exit)) ⌝ }
 {
     let have = x.have;
     let old = x.run;
@@ -155,8 +158,8 @@ fn print_storm(buf: &mut [u8], t: Traverse, run: Run, out: &mut [u8], used: usiz
     waits
 }
 
-// A traverse that was read: the listing's names line and the storm, or the refusal. `Full` and `More` do not come here: the buffer is empty
-// and holds any line.
+// A traverse that was read: the listing's names line, before `storm.txt` is opened, and the storm; or the refusal. `begin` answers `Line` or
+// `End` where the buffer holds 50 bytes, which is not proved here: on any other answer nothing would be printed.
 fn print_run(buf: &mut [u8], t: Traverse, out: &mut [u8]) -> usize
     requires { ⌜ 3575 ≤ length (now buf) ⌝ }
     ensures { λ r. ⌜ r ≤ length (now (out .exit)) ⌝ }
@@ -172,9 +175,10 @@ fn print_run(buf: &mut [u8], t: Traverse, out: &mut [u8]) -> usize
     }
 }
 
-// A traverse text that was refused: its refusal alone.
+// A traverse text that was refused: its refusal alone, for which an empty buffer has room.
 fn print_refused(out: &mut [u8], number: u64, place: usize) -> usize
-    ensures { λ r. ⌜ r ≤ length (now (out .exit)) ⌝ }
+    requires { ⌜ 50 ≤ length (now out) ⌝ }
+    ensures { λ r. ⌜ (r ≤ length (now (out .exit))) × (given (Next r) (now (out .exit)) ≡ putOf (refusedLine number place) 0 (now (out .entry))) ⌝ }
 {
     match listing::put_refused(out, 0, number, place as u64) {
         Put::Next(k) => k,
@@ -183,7 +187,7 @@ fn print_refused(out: &mut [u8], number: u64, place: usize) -> usize
 }
 
 fn run(buf: &mut [u8], out: &mut [u8])
-    requires { ⌜ 3575 ≤ length (now buf) ⌝ }
+    requires { ⌜ (3575 ≤ length (now buf)) × (50 ≤ length (now out)) ⌝ }
 {
     let load = files::read_traverse(buf);
     let answer = load.answer;
