@@ -8,6 +8,9 @@
  * A STORM is marched by one call of fennhop_open_traverse, rows set to 0, and then one call of fennhop_take_record for each record
  * in order. A record CLOSES an interval: its winds, tide and deficits are those at the end of its seconds.
  *
+ * THE TEXT of a traverse and of a storm, in the form of traverse.txt and storm.txt and held whole by the caller, is read into such
+ * numbers by fennhop_read_traverse and fennhop_read_record. No value is judged by its limits there: that is for the two calls above.
+ *
  * NUMBERS AND LIMITS. All are whole numbers, int64_t. Both ends of a limit are allowed.
  *
  *   latitude           0.1 degree north                           0 to 900
@@ -41,10 +44,28 @@
  *            each segment: low, high.
  *   answer   FENNHOP_ANSWER numbers, set by every call that returns anything but FENNHOP_WRONG_BUFFER:
  *            [0] the place of a refusal, else 0; [1], [2] low and high of the height at the shore where a record is accepted, else 0.
+ *            Reading a text: [1] the points of the traverse, or 1 where a record was read; else 0. [2] is 0.
+ *
+ * and for reading a text:
+ *
+ *   text     bytes, uint8_t, only read; any bytes, any count.
+ *   head     FENNHOP_HEAD numbers: latitude, friction, initial level.
+ *   points   FENNHOP_READ_POINTS numbers: as above for as many points as answer[1] says, then 0. The march's two calls are given
+ *            2 * answer[1] as their count.
+ *   cursor   FENNHOP_CURSOR numbers: the bytes and the lines of the storm's text that were read so far. 0 and 0 to begin; a record
+ *            that is read moves it past its lines. A negative number is read as 0; a cursor past the text is at its end.
+ *   values   FENNHOP_VALUES numbers: seconds, tide.
+ *   storm    FENNHOP_READ_STORM numbers: as above for each point of the traverse, then 0. The march's call is given 3 * points as
+ *            its count.
  *
  * WHAT A CALL RETURNS: 0 where it is accepted, else the number of the first refusal in this order, with its place in answer[0]
  * (points, rows and segments count from 1):
  *
+ *    1  a names line different, or the text empty                                   line; 1 if empty
+ *    2  a value line malformed, or a wrong count of values                           line
+ *    3  the text ends inside a record, or before the value line, the first point
+ *       or the first record                                                          last line
+ *    4  seconds or tide differ within a record                                       line
  *    5  fewer than 2 or more than 65 points                                          points given
  *    6  a value of the traverse past its limits                                      point; 0 for latitude, friction, initial level
  *    7  distances break their rule                                                   point
@@ -56,13 +77,17 @@
  *   11  flux past its limits                                                         segment
  *   12  setup past its limits                                                        segment
  *
- * FENNHOP_WRONG_BUFFER: `state` or `answer` is not as long as it has to be; nothing was looked at and nothing touched. 1 to 4 are
- * refusals of text files and are never returned here.
+ * 1 to 4 are returned by the calls that read a text alone, which return nothing past 5; lines count from 1. The other two never
+ * return 1 to 4.
+ *
+ * FENNHOP_WRONG_BUFFER: `state`, `answer`, or what a text is read into, is not as long as it has to be; nothing was looked at and
+ * nothing touched.
  *
  * A count that is no multiple of the numbers of a point or of a row counts as no points or no rows at all: 5, place 0, for `points`,
  * and 8, place 0, for `storm` and `rows`. An elapsed time in `state` that is itself past its limits is 9, place 0.
  *
- * A refused call leaves state, rows and setup exactly as they were, so the caller may mend the record and call again.
+ * A refused call leaves state, rows and setup exactly as they were, so the caller may mend the record and call again. A refused
+ * reading leaves head, points, cursor, values and storm exactly as they were.
  */
 #ifndef FENNHOP_SURGE_H
 #define FENNHOP_SURGE_H
@@ -77,10 +102,15 @@ extern "C" {
 /* Counts of numbers. */
 #define FENNHOP_STATE 2
 #define FENNHOP_ANSWER 3
+#define FENNHOP_HEAD 3
+#define FENNHOP_READ_POINTS 130
+#define FENNHOP_CURSOR 2
+#define FENNHOP_VALUES 2
+#define FENNHOP_READ_STORM 195
 #define FENNHOP_MOST_POINTS 65
 #define FENNHOP_MOST_SEGMENTS 64
 
-/* Returned where `state` or `answer` has another length. */
+/* Returned where an array of one of those counts has another length. */
 #define FENNHOP_WRONG_BUFFER 255
 
 /* Opens a traverse: checks 5 to 7. Accepted: state is that of a fresh traverse. Refused: state is left as it was. */
@@ -98,6 +128,22 @@ uint64_t fennhop_take_record(int64_t latitude, int64_t friction, int64_t initial
                              int64_t *state, size_t state_count,
                              int64_t *rows, size_t rows_count,
                              int64_t *setup, size_t setup_count,
+                             int64_t *answer, size_t answer_count);
+
+/* Reads the text of a traverse: checks 1, 2, 3 and 5. Accepted: head and points are the traverse's and answer[1] is the count of its
+ * points. Refused: head and points are left as they were. */
+uint64_t fennhop_read_traverse(const uint8_t *text, size_t text_count,
+                               int64_t *head, size_t head_count,
+                               int64_t *points, size_t points_count,
+                               int64_t *answer, size_t answer_count);
+
+/* Reads the next record from the text of a storm, for a traverse of so many `points`: checks 1 to 5. With cursor 0, 0 the names line
+ * is read first. Returns 0 with answer[1] = 1 where a record was read: cursor, values and storm are set. Returns 0 with answer[1] = 0
+ * where the text ended after a record. Then, and where it is refused, cursor, values and storm are left as they were. */
+uint64_t fennhop_read_record(const uint8_t *text, size_t text_count, size_t points,
+                             int64_t *cursor, size_t cursor_count,
+                             int64_t *values, size_t values_count,
+                             int64_t *storm, size_t storm_count,
                              int64_t *answer, size_t answer_count);
 
 #ifdef __cplusplus

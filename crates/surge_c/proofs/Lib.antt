@@ -4,3 +4,4 @@ pub mod StoreLaws
 pub mod CallLaws
 pub mod Again
 pub mod Places
+pub mod TextLaws

@@ -32,7 +32,7 @@ stored-start n rows out h = record { reach = omega arith; full = h; same = none 
     none (x ∷ l) [] = refl
     none (x ∷ l) (y ∷ o) = refl
 
-three : (m : ℕ) (l : List ℤ) (a b c : ℤ) → suc (suc m) < length l →
+pub three : (m : ℕ) (l : List ℤ) (a b c : ℤ) → suc (suc m) < length l →
     take (suc (suc (suc m))) (set (set (set l m a) (suc m) b) (suc (suc m)) c) ≡ take m l ++ (a ∷ b ∷ c ∷ [])
 three m l a b c h =
     let g : suc (suc m) < length (set (set l m a) (suc m) b) = simp length-set h in

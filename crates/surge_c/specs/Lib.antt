@@ -3,3 +3,4 @@ pub mod Stores
 pub mod Calls
 pub mod Again
 pub mod Places
+pub mod Texts
