@@ -9,6 +9,7 @@ pub use storm::RecordRead;
 pub use storm::RecordStep;
 pub use storm::StartStep;
 pub use storm::Step;
+pub use storm::counts;
 pub use storm::storm_start;
 pub use storm::storm_start_step;
 pub use traverse::Known;

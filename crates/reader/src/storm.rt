@@ -77,7 +77,7 @@ fn record_of(n: usize, rows: &[i64]) -> Record
 }
 
 // Whether a traverse may have so many points.
-fn counts(n: usize) -> bool
+pub fn counts(n: usize) -> bool
     ensures { λ r. ⌜ r ≡ Storm·counts n ⌝ }
 {
     if n < 2 {

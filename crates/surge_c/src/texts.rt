@@ -14,7 +14,7 @@ ghost use mathlib.Core.Path.{_≡_};
 ghost use mathlib.Core.List.{[], _∷_};
 ghost use lib.IntN.{pos};
 ghost use lib.ListN.{length};
-ghost use Rattle.reader.specs.Storm.{counts, nextAt, recordRead};
+ghost use Rattle.reader.specs.Storm.{nextAt, recordRead};
 ghost use Rattle.surge_c.specs.Stores.{answerNumbers};
 ghost use Rattle.surge_c.specs.Calls.{refusedAnswer};
 ghost use Rattle.surge_c.specs.Texts.{stationNumbers, traverseBuffers, leftTraverse, keptTraverse, readTraverseCall, pointNumbers, lentPlace, cursorOf, cursorNumbers, startOf, recordBuffers, RecordIn, leftRecord, keptRecord, afterNextRead, readRecordCall};
@@ -36,19 +36,6 @@ pub fn store_stations(numbers: &mut [i64], stations: [Station; 65])
         numbers[2 * i + 1] = depth;
         i += 1;
     }
-}
-
-// Whether a traverse may have so many points.
-pub fn points_ok(n: usize) -> bool
-    ensures { λ r. ⌜ r ≡ counts n ⌝ }
-{
-    if n < 2 {
-        return false;
-    }
-    if n > 65 {
-        return false;
-    }
-    true
 }
 
 // A refusal: its place into the answer, and its number.
@@ -80,7 +67,7 @@ pub fn keep_traverse(t: Traverse, head: &mut [i64], points: &mut [i64], answer: 
     ensures { λ r. ⌜ leftTraverse r (now (head .exit)) (now (points .exit)) (now (answer .exit)) ≡ keptTraverse t (now (head .entry)) (now (points .entry)) ⌝ }
 {
     let count = t.count;
-    if !points_ok(count) {
+    if !reader::counts(count) {
         return refuse_text(5, count, answer);
     }
     let latitude = t.latitude;
