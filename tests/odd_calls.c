@@ -4,10 +4,10 @@
 #include <stdio.h>
 #include <string.h>
 #include "../include/surge.h"
+#include "expect.h"
 
 enum { ROOM = 512 };
 static const int64_t GUARD = INT64_C(0x5bd1e995a5a5a5a5);
-static int failed, made;
 
 /* document 01's listing storm, two points */
 static const int64_t points[] = {10, 500, 0, 500, 0, 0, 0, 0};
@@ -25,15 +25,6 @@ static void prepare(void)
     state[0] = state[1] = rows[0] = rows[1] = rows[2] = 0;
     for (int a = 0; a < 4; a++)
         memcpy(was[a], lent[a], sizeof was[a]);
-}
-
-static void expect(const char *what, int good)
-{
-    made++;
-    if (good)
-        return;
-    failed++;
-    printf("failed: %s\n", what);
 }
 
 static int same(int a, int from)
@@ -156,6 +147,5 @@ int main(void)
     accepted();
     started();
     ends();
-    printf("%d passed, %d failed\n", made - failed, failed);
-    return failed != 0;
+    return summary();
 }

@@ -5,10 +5,10 @@
 #include <stdio.h>
 #include <string.h>
 #include "../include/surge.h"
+#include "expect.h"
 
 enum { ROOM = 256, BYTES = 4096 };
 static const int64_t GUARD = INT64_C(0x5bd1e995a5a5a5a5);
-static int failed, made;
 
 static int64_t head[ROOM], points[ROOM], cursor[ROOM], values[ROOM], storm[ROOM], answer[ROOM];
 static int64_t was[6][ROOM];
@@ -35,15 +35,6 @@ static void prepare(int64_t bytes, int64_t lines)
     cursor[0] = bytes;
     cursor[1] = lines;
     keep();
-}
-
-static void expect(const char *what, int good)
-{
-    made++;
-    if (good)
-        return;
-    failed++;
-    printf("failed: %s\n", what);
 }
 
 static int same(int a, int from)
@@ -253,6 +244,5 @@ int main(int n, char **args)
     many();
     lengths();
     cursors();
-    printf("%d passed, %d failed\n", made - failed, failed);
-    return failed != 0;
+    return summary();
 }

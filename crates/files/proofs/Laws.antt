@@ -1,12 +1,15 @@
--- What a turn of `shift` does, and what stands before a part of a slice that was lent. Assumes nothing.
-use mathlib.Core.Path.{_≡_, refl, _∙_}
+-- What a turn of `shift` does, what stands before a part of a slice that was lent, and when a read gave no byte. Assumes nothing.
+use mathlib.Core.Path.{_≡_, refl, sym, _∙_}
+use mathlib.Core.Bool.{Bool, true, false}
 use mathlib.Core.List.{List}
 use Prim.Native.Nat.{ℕ, _+_, _<_, _≤_}
 use native.Mathlib.Omega.{arith}
+use lib.Dec.{eqb}
 use lib.ListN.{length, getD, set, length-set, take, length-append, List·getD-append}
 use lib.Seq.{getD-set-same, getD-set-other, getD-take, length-take-le}
 use borrow.Rule.Slice.PartMut.{putMid}
 use borrow.Author.Count.{below-more}
+use borrow.Author.Tests.{eqb-true, eqb-false, eq-eqb, ne-eqb}
 use Rattle.reader.specs.Text.{byte}
 
 -- the first i bytes are those from at on, and the others are as they were
@@ -35,3 +38,11 @@ module _ (n k : ℕ) (xs ys : List ℕ) (h : n ≤ length xs) where
 
   pub put-front : (j : ℕ) → j < n → byte (putMid n k xs ys) j ≡ byte xs j
   put-front j p = List·getD-append (take n xs) _ 0 j (rw length-take-le p) ∙ getD-take n xs j 0 p
+
+-- no byte was read where as many are held as were left
+pub none-read : (m r n : ℕ) → r ≡ n → eqb m 0 ≡ eqb (r + m) n
+none-read m r n e = go (eqb m 0) refl
+  where
+    go : (b : Bool) → eqb m 0 ≡ b → b ≡ eqb (r + m) n
+    go true f = sym (eq-eqb (r + m) n (omega (arith, eqb-true m 0 f)))
+    go false f = sym (ne-eqb (r + m) n (λ z. eqb-false m 0 f (omega arith)))

@@ -3,6 +3,7 @@ use mathlib.Core.Path.{_≡_}
 use mathlib.Core.Bool.{true, false}
 use mathlib.Core.List.{List}
 use Prim.Native.Nat.{ℕ, _+_, _-_, _<_, _≤_}
+use lib.Dec.{eqb}
 use lib.ListN.{take}
 use Rattle.records.specs.declared.Traverse.{Traverse}
 use Rattle.reader.specs.Text.{byte}
@@ -28,6 +29,8 @@ pub record Follows (x : March) (run : Run) (have used : ℕ) (a b : List ℕ) : 
   pub waits : x .used ≡ used
   pub left : have - run .cursor .at ≤ x .have
   pub bytes : (j : ℕ) → j < have - run .cursor .at → byte b j ≡ byte a (run .cursor .at + j)
+  -- the end is told where the read gave no byte, and only there
+  pub ended : x .last ≡ eqb (x .have) (have - run .cursor .at)
 
 -- ---- one turn: x is the march before it, r after it
 

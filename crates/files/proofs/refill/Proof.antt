@@ -3,7 +3,7 @@ use native.Mathlib.Omega.{arith}
 use mathlib.Core.Path.{_∙_}
 use Prim.Native.Nat.{_-_, _≤_}
 use lib.ListN.{length}
-use Rattle.files.proofs.Laws.{put-long, put-front}
+use Rattle.files.proofs.Laws.{put-long, put-front, none-read}
 use borrow.Author.Needs.{needs}
 use Rattle.files.proofs.refill.Statement.{statement}
 use Rattle.files.proofs.refill.Tie as tie
@@ -55,7 +55,10 @@ returns-2 c =
       omega (arith, put-long (s .result) (length (s .last .0) - s .result) (s .last .0) (r .last .1 .0) f, c .count .ensures .0 .0),
       (
         omega (arith, s .ensures .0),
-        λ j h. put-front (s .result) (length (s .last .0) - s .result) (s .last .0) (r .last .1 .0) f j (omega (arith, s .ensures .0)) ∙ s .ensures .1 j (omega (arith, s .ensures .0)),
+        (
+          λ j h. put-front (s .result) (length (s .last .0) - s .result) (s .last .0) (r .last .1 .0) f j (omega (arith, s .ensures .0)) ∙ s .ensures .1 j (omega (arith, s .ensures .0)),
+          none-read (c .count .result) (s .result) _ (s .ensures .0),
+        ),
       ),
     )
 

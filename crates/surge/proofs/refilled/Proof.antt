@@ -48,7 +48,7 @@ returns-2 c =
     let s = c .before .before .before .before .before .before .before .before .before .before .args in
     let e = subst (λ (x : Filled). Refilled x (now (s .buf)) (c .before .before .before .before .before .before .refill .last .1 .0) (s .run .cursor .at) (s .have)) (c .before .before .n .given .1) (c .before .before .before .before .before .before .refill .ensures) in (
       record { place = omega (arith, ap (λ (r : Run). r .cursor .at) (c .at-front .ensures)); held = e .0; waits = omega arith },
-      λ h. record { same = c .at-front .ensures; waits = refl; left = e .1 .0; bytes = e .1 .1 },
+      λ h. record { same = c .at-front .ensures; waits = refl; left = e .1 .0; bytes = e .1 .1 .0; ended = e .1 .1 .1 },
     )
 
 pub refilled-spec : {M : Type 1} → statement M
