@@ -53,16 +53,18 @@ static void refuse(const char *what, uint64_t number, int64_t place)
 
 static double by_library(int n, int level_c, int64_t *widest)
 {
-    int64_t state[FENNHOP_STATE], answer[FENNHOP_ANSWER], rows[3 * MOST] = {0}, setup[2 * MOST];
+    int64_t state[FENNHOP_STATE], answer[FENNHOP_ANSWER], setup[FENNHOP_SETUP_STRIDE * FENNHOP_MOST_SEGMENTS];
+    fennhop_row rows[FENNHOP_MOST_SEGMENTS] = {{0, 0, 0}};
+    size_t points_count = FENNHOP_POINTS_STRIDE * (size_t)(n + 1), storm_count = FENNHOP_STORM_STRIDE * (size_t)(n + 1);
     double began = seconds_now();
-    uint64_t number = fennhop_open_traverse(latitude, friction, initial, points[0], 2 * (size_t)(n + 1), state, FENNHOP_STATE,
-                                            answer, FENNHOP_ANSWER);
+    uint64_t number = fennhop_open_traverse(latitude, friction, initial, points[0], points_count, state, FENNHOP_STATE, answer,
+                                            FENNHOP_ANSWER);
     if (number)
         refuse("traverse", number, answer[0]);
     for (int k = 0; k < RECORDS; k++) {
-        number = fennhop_take_record(latitude, friction, initial, points[0], 2 * (size_t)(n + 1), k ? step : 0, tide[k], storm[k][0],
-                                     3 * (size_t)(n + 1), state, FENNHOP_STATE, rows, 3 * (size_t)n, level_c ? setup : NULL,
-                                     level_c ? 2 * (size_t)n : 0, answer, FENNHOP_ANSWER);
+        number = fennhop_take_record(latitude, friction, initial, points[0], points_count, k ? step : 0, tide[k], storm[k][0],
+                                     storm_count, state, FENNHOP_STATE, rows, (size_t)n, level_c ? setup : NULL,
+                                     level_c ? FENNHOP_SETUP_STRIDE * (size_t)n : 0, answer, FENNHOP_ANSWER);
         if (number)
             refuse("record", number, answer[0]);
         if (answer[2] - answer[1] > *widest)

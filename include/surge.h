@@ -2,8 +2,9 @@
  *
  * The bathystrophic method of CERC Technical Memorandum 35 along a traverse from the shelf edge to the shore, in whole-number
  * ranges: each height, flux and setup is a low and a high end, rounded outward, and the march in exact fractions lies between them.
- * Link with libsurge_c.a; it needs no other library, allocates nothing, keeps nothing between calls, prints nothing and never fails
- * otherwise than by the numbers below. Calls from several threads at once are safe where they do not share a lent array.
+ * Link with libsurge_c.a; it needs no other library but C's own (memcpy and memset of it), allocates nothing, keeps nothing between
+ * calls, prints nothing and never fails otherwise than by the numbers below. Calls from several threads at once are safe where they do
+ * not share an array that a call may write.
  *
  * A STORM is marched by one call of fennhop_open_traverse, rows set to 0, and then one call of fennhop_take_record for each record
  * in order. A record CLOSES an interval: its winds, tide and deficits are those at the end of its seconds.
@@ -29,19 +30,19 @@
  *   setup, height      0.0001 ft                                  setup -1,000,000 to 1,000,000
  *   elapsed            s since the first record                   0 to 1,000,000,000
  *
- * ARRAYS. Each is a pointer and, right after it, the count of its numbers (not of bytes, not of points). All are the caller's: they
- * are used during the call alone, and the library keeps no pointer. Arrays marked const are only read. A pointer may be NULL where
- * its count is 0, and only there; otherwise it points to so many numbers, aligned as int64_t. Arrays that a call may write must not
- * overlap each other nor an array that it reads.
+ * ARRAYS. Each is a pointer and, right after it, a count: of rows for `rows`, of bytes for `text`, and for every other array of its
+ * numbers (not of points). All are the caller's: they are used during the call alone, and the library keeps no pointer. Arrays marked
+ * const are only read. A pointer may be NULL where its count is 0, and only there; otherwise it points to so many of them, aligned as
+ * C aligns their type. Arrays that a call may write must not overlap each other nor an array that it reads.
  *
- *   points   2 numbers a point, sea to shore: distance, depth. 2 to 65 points.
- *   storm    3 numbers a point, in the order of the traverse: wind, angle, deficit.
+ *   points   FENNHOP_POINTS_STRIDE numbers a point, sea to shore: distance, depth. 2 to 65 points.
+ *   storm    FENNHOP_STORM_STRIDE numbers a point, in the order of the traverse: wind, angle, deficit.
  *   state    FENNHOP_STATE numbers: elapsed seconds; 0 before the first accepted record, 1 after it (any number but 0 is read as 1).
  *            fennhop_open_traverse sets it; every accepted record moves it on. Plain numbers: keep, copy or store them as you like.
- *   rows     3 numbers a segment, sea to shore: flux low, flux high, cross sum. All 0 for a fresh traverse. A segment lies between
- *            two neighbouring points, so there are points - 1 of them.
- *   setup    Level B: no numbers (count 0). Level C: 2 numbers a segment, which an accepted record sets to the setup range after
- *            each segment: low, high.
+ *   rows     a fennhop_row for each segment, sea to shore: low and high of the flux, cross sum. All 0 for a fresh traverse. A segment
+ *            lies between two neighbouring points, so there are points - 1 of them.
+ *   setup    Level B: no numbers (count 0). Level C: FENNHOP_SETUP_STRIDE numbers a segment, which an accepted record sets to the
+ *            setup range after each segment: low, high.
  *   answer   FENNHOP_ANSWER numbers, set by every call that returns anything but FENNHOP_WRONG_BUFFER:
  *            [0] the place of a refusal, else 0; [1], [2] low and high of the height at the shore where a record is accepted, else 0.
  *            Reading a text: [1] the points of the traverse, or 1 where a record was read; else 0. [2] is 0.
@@ -51,17 +52,18 @@
  *   text     bytes, uint8_t, only read; any bytes, any count.
  *   head     FENNHOP_HEAD numbers: latitude, friction, initial level.
  *   points   FENNHOP_READ_POINTS numbers: as above for as many points as answer[1] says, then 0. The march's two calls are given
- *            2 * answer[1] as their count.
+ *            FENNHOP_POINTS_STRIDE * answer[1] as their count.
  *   cursor   FENNHOP_CURSOR numbers: the bytes and the lines of the storm's text that were read so far. 0 and 0 to begin; a record
  *            that is read moves it past its lines. A negative number is read as 0; a cursor past the text is at its end.
  *   values   FENNHOP_VALUES numbers: seconds, tide.
- *   storm    FENNHOP_READ_STORM numbers: as above for each point of the traverse, then 0. The march's call is given 3 * points as
- *            its count.
+ *   storm    FENNHOP_READ_STORM numbers: as above for each point of the traverse, then 0. The march's call is given
+ *            FENNHOP_STORM_STRIDE times the points as its count.
  *
- * WHAT A CALL RETURNS: 0 where it is accepted, else the number of the first refusal in this order, with its place in answer[0]
- * (points, rows and segments count from 1):
+ * WHAT A CALL RETURNS: 0 where it is accepted, else the number of the first refusal, with its place in answer[0] (lines, points, rows
+ * and segments count from 1). Each number has a name below. The march's two calls make their checks in the order of this table and
+ * never return 1 to 4; the two that read a text return 1 to 5 alone, in the order told at each.
  *
- *    1  a names line different, or the text empty                                   line; 1 if empty
+ *    1  a names line different, or the text empty                                    line; 1 if empty
  *    2  a value line malformed, or a wrong count of values                           line
  *    3  the text ends inside a record, or before the value line, the first point
  *       or the first record                                                          last line
@@ -77,17 +79,23 @@
  *   11  flux past its limits                                                         segment
  *   12  setup past its limits                                                        segment
  *
- * 1 to 4 are returned by the calls that read a text alone, which return nothing past 5; lines count from 1. The other two never
- * return 1 to 4.
+ * FENNHOP_WRONG_BUFFER: `state`, `answer`, or what a text is read into, is not as long as it has to be; no check was made and nothing
+ * was written, the answer neither.
  *
- * FENNHOP_WRONG_BUFFER: `state`, `answer`, or what a text is read into, is not as long as it has to be; nothing was looked at and
- * nothing touched.
+ * A count that is no multiple of the numbers of a point counts as no points at all: 5, place 0, for `points`, and 8, place 0, for
+ * `storm`. An elapsed time in `state` that is itself past its limits is 9, place 0. Within a segment 10 comes before 11 and 11 before
+ * 12, and all three before the next segment.
  *
- * A count that is no multiple of the numbers of a point or of a row counts as no points or no rows at all: 5, place 0, for `points`,
- * and 8, place 0, for `storm` and `rows`. An elapsed time in `state` that is itself past its limits is 9, place 0.
+ * A refused call writes nothing but its answer: state, rows and setup stay exactly as they were, so the caller may mend the record and
+ * call again. A refused reading leaves head, points, cursor, values and storm exactly as they were.
  *
- * A refused call leaves state, rows and setup exactly as they were, so the caller may mend the record and call again. A refused
- * reading leaves head, points, cursor, values and storm exactly as they were.
+ * STACK that a call needs, from its caller's frame down, as measured on x86-64 (bench/stack.c) and rounded up to a multiple of 512.
+ * What a dynamic linker needs to find memcpy the first time is not in it.
+ *
+ *   fennhop_open_traverse       512 bytes
+ *   fennhop_take_record       6,656 bytes
+ *   fennhop_read_traverse     1,536 bytes
+ *   fennhop_read_record       2,048 bytes
  */
 #ifndef FENNHOP_SURGE_H
 #define FENNHOP_SURGE_H
@@ -99,19 +107,49 @@
 extern "C" {
 #endif
 
-/* Counts of numbers. */
-#define FENNHOP_STATE 2
-#define FENNHOP_ANSWER 3
-#define FENNHOP_HEAD 3
-#define FENNHOP_READ_POINTS 130
-#define FENNHOP_CURSOR 2
-#define FENNHOP_VALUES 2
-#define FENNHOP_READ_STORM 195
+/* The version of this header and its library; the number is 10,000 * major + 100 * minor + patch. */
+#define FENNHOP_VERSION "1.0.0"
+#define FENNHOP_VERSION_NUMBER 10000
+
+/* The most points of a traverse, and the most segments between them. */
 #define FENNHOP_MOST_POINTS 65
 #define FENNHOP_MOST_SEGMENTS 64
 
-/* Returned where an array of one of those counts has another length. */
+/* Numbers a point of `points`, a point of `storm`, a segment of `setup`. */
+#define FENNHOP_POINTS_STRIDE 2
+#define FENNHOP_STORM_STRIDE 3
+#define FENNHOP_SETUP_STRIDE 2
+
+/* Numbers of the arrays that have one length. */
+#define FENNHOP_STATE 2
+#define FENNHOP_ANSWER 3
+#define FENNHOP_HEAD 3
+#define FENNHOP_READ_POINTS 130 /* FENNHOP_POINTS_STRIDE * FENNHOP_MOST_POINTS */
+#define FENNHOP_CURSOR 2
+#define FENNHOP_VALUES 2
+#define FENNHOP_READ_STORM 195 /* FENNHOP_STORM_STRIDE * FENNHOP_MOST_POINTS */
+
+/* What is returned: the refusals, by the table above. */
+#define FENNHOP_REFUSED_NAMES 1           /* a names line different, or the text empty */
+#define FENNHOP_REFUSED_MALFORMED 2       /* a value line malformed, or a wrong count of values */
+#define FENNHOP_REFUSED_ENDED 3           /* the text ends inside a record, or before the value line, the first point or record */
+#define FENNHOP_REFUSED_DIFFERS 4         /* seconds or tide differ within a record */
+#define FENNHOP_REFUSED_POINTS 5          /* fewer than 2 or more than 65 points */
+#define FENNHOP_REFUSED_TRAVERSE_VALUE 6  /* a value of the traverse past its limits */
+#define FENNHOP_REFUSED_DISTANCE 7        /* distances break their rule */
+#define FENNHOP_REFUSED_LENT 8            /* rows, points of the record or setup of another count, or a row past its limits */
+#define FENNHOP_REFUSED_RECORD_VALUE 9    /* a value of the record, or the elapsed time, past its limits */
+#define FENNHOP_REFUSED_DEPTH 10          /* water depth past its limits */
+#define FENNHOP_REFUSED_FLUX 11           /* flux past its limits */
+#define FENNHOP_REFUSED_SETUP 12          /* setup past its limits */
+
+/* Returned where an array that has one length is lent with another. */
 #define FENNHOP_WRONG_BUFFER 255
+
+/* What the march keeps of a segment: the range of its flux, and its last sum of two cross stresses. */
+typedef struct fennhop_row {
+    int64_t low, high, cross;
+} fennhop_row;
 
 /* Opens a traverse: checks 5 to 7. Accepted: state is that of a fresh traverse. Refused: state is left as it was. */
 uint64_t fennhop_open_traverse(int64_t latitude, int64_t friction, int64_t initial,
@@ -126,21 +164,24 @@ uint64_t fennhop_take_record(int64_t latitude, int64_t friction, int64_t initial
                              int64_t seconds, int64_t tide,
                              const int64_t *storm, size_t storm_count,
                              int64_t *state, size_t state_count,
-                             int64_t *rows, size_t rows_count,
+                             fennhop_row *rows, size_t rows_count,
                              int64_t *setup, size_t setup_count,
                              int64_t *answer, size_t answer_count);
 
-/* Reads the text of a traverse: checks 1, 2, 3 and 5. Accepted: head and points are the traverse's and answer[1] is the count of its
- * points. Refused: head and points are left as they were. */
+/* Reads the text of a traverse. In this order: line by line 1 and 2; 3 where the text ends too early; the count of points, 5.
+ * Accepted: head and points are the traverse's and answer[1] is the count of its points. Refused: head and points are left as they
+ * were. */
 uint64_t fennhop_read_traverse(const uint8_t *text, size_t text_count,
                                int64_t *head, size_t head_count,
                                int64_t *points, size_t points_count,
                                int64_t *answer, size_t answer_count);
 
-/* Reads the next record from the text of a storm, for a traverse of so many `points`: checks 1 to 5. With cursor 0, 0 the names line
- * is read first. Returns 0 with answer[1] = 1 where a record was read: cursor, values and storm are set. Returns 0 with answer[1] = 0
- * where the text ended after a record. Then, and where it is refused, cursor, values and storm are left as they were. */
-uint64_t fennhop_read_record(const uint8_t *text, size_t text_count, size_t points,
+/* Reads the next record from the text of a storm, for a traverse of point_count points. In this order: the lengths of what is lent,
+ * 255; with cursor 0, 0 the names line, 1; the count of points, 5; the end of the text, which is 3 before the first record; line by
+ * line 2 and 4, within a line 2 first; 3 where the text ends inside the record and no line that is there is faulty. Returns 0 with
+ * answer[1] = 1 where a record was read: cursor, values and storm are set. Returns 0 with answer[1] = 0 where the text ended after a
+ * record. Then, and where it is refused, cursor, values and storm are left as they were. */
+uint64_t fennhop_read_record(const uint8_t *text, size_t text_count, size_t point_count,
                              int64_t *cursor, size_t cursor_count,
                              int64_t *values, size_t values_count,
                              int64_t *storm, size_t storm_count,

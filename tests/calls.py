@@ -34,12 +34,11 @@
 #
 # TRAVERSE: LATITUDE FRICTION INITIAL COUNT, then COUNT times DISTANCE DEPTH
 # ACCEPTED: 1 where a first record was accepted, else 0
-# ROWS:     their count, then for each FLUXLOW FLUXHIGH SUM; lend exactly these
+# ROWS:     COUNT, then COUNT times FLUXLOW FLUXHIGH SUM; lend exactly these
 # PLACES:   the length of the setup buffer, then its numbers; lend exactly these
 # POINTS:   COUNT, then COUNT times WIND ANGLE DEFICIT
-# Where COUNT of a traverse or of points is above 100, no pairs or triples follow
-# it: only the count is given to the call. A product with 65 places keeps the
-# first 65 and the count.
+# Where a COUNT is above 100, nothing follows it, in the answer neither: the call
+# is given so many points or rows, all their numbers 0.
 #
 # force, flux, gain and segment are asked within the limits of document 01 alone;
 # open and record with anything.
@@ -178,17 +177,17 @@ def aimed_setup(rng, given, setup):
 # Opening a traverse.
 
 
-def points_text(points):
-    """Count and points; above 100 the count alone."""
-    flat = [len(points)]
-    if len(points) <= 100:
-        for point in points:
-            flat.extend(point)
+def groups_text(groups):
+    """Count and points or rows; above 100 the count alone."""
+    flat = [len(groups)]
+    if len(groups) <= 100:
+        for group in groups:
+            flat.extend(group)
     return flat
 
 
 def traverse_numbers(traverse):
-    return [*traverse[:3], *points_text(traverse.points)]
+    return [*traverse[:3], *groups_text(traverse.points)]
 
 
 def broken_traverse(rng, run):
@@ -222,10 +221,7 @@ def ask_open(rng):
 
 
 def lent_numbers(rows, places):
-    flat = [len(rows)]
-    for row in rows:
-        flat.extend(row)
-    return [*flat, len(places), *places]
+    return [*groups_text(rows), len(places), *places]
 
 
 def ask_one_record(traverse, state, rows, places, record):
@@ -238,7 +234,7 @@ def ask_one_record(traverse, state, rows, places, record):
         *lent_numbers(rows, places),
         record.seconds,
         record.tide,
-        *points_text(record.points),
+        *groups_text(record.points),
     )
     answer = march.take_record(traverse, state, rows, places, record)
     if isinstance(answer, march.Refusal):
@@ -273,8 +269,10 @@ def wrong_counts(rng, rows, places, record):
     segments = len(rows)
     kind = rng.randrange(3)
     if kind == 0:
-        count = rng.choice((0, segments - 1, segments + 1, 2 * segments, 65))
-        rows = [march.FRESH] * count
+        count = rng.choice(
+            (0, segments - 1, segments + 1, 2 * segments, 63, 65, 200, 2**31, 2**32 + segments)
+        )
+        rows = [march.FRESH] * count if count <= 100 else range(count)
     elif kind == 1:
         count = rng.choice((1, segments - 1, segments, 2 * segments - 1, 2 * segments + 1, 130))
         places = marked_places(rng, max(0, count))

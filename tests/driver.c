@@ -2,8 +2,8 @@
  * through libsurge_c.a as any customer's program would, the functions below the march through libprobe.a. `segment` is not exported
  * and is answered `skip`.
  *
- * Every array that is lent stands between two guard numbers, and arrays that are only read are compared with a copy after the call;
- * a number changed outside of what was lent ends the driver. */
+ * Every array that is lent stands between two guard numbers, the rows between two guard rows, and arrays that are only read are
+ * compared with a copy after the call; a number changed outside of what was lent ends the driver. */
 #include <errno.h>
 #include <inttypes.h>
 #include <stdio.h>
@@ -21,11 +21,15 @@ void probe_damped(int64_t c, int64_t v_low, int64_t v_high, int64_t f_low, int64
 void probe_quotient(int64_t n_low, int64_t n_high, int64_t d_low, int64_t d_high, int64_t *out, size_t out_count);
 
 enum { WRITTEN = 100, ROOM = 4096 };
-static const int64_t GUARD = INT64_C(0x5bd1e995a5a5a5a5);
+#define GUARD INT64_C(0x5bd1e995a5a5a5a5)
+static const fennhop_row GUARD_ROW = {GUARD, GUARD, GUARD};
 
-/* Zero pages for a count of points above 100, of which the request gives none. Only the first are ever read. */
+/* Zero pages for a count of points or of rows above 100, of which the request gives none. They cannot be written, and a call that tried
+ * would end the driver; but for the first rows, which a refused call may write back as they were. */
 static const int64_t *blank;
+static fennhop_row *blank_rows;
 static const size_t BLANK = (size_t)13 << 30; /* numbers: twice and thrice the largest count asked */
+static const size_t OPEN = 1 << 16; /* bytes of rows that can be written */
 
 static char *at; /* the next number of the request */
 
@@ -109,7 +113,66 @@ static void check_given(const struct lent *a)
         unchanged(a);
 }
 
-static struct lent line, storm, state, rows, setup, answer;
+static struct lent line, storm, state, setup, answer;
+
+/* Rows between two guard rows, with a copy of what was lent. */
+static struct {
+    fennhop_row space[WRITTEN + 2], copy[WRITTEN];
+    fennhop_row *lent;
+    size_t count;
+} rows;
+
+static int same_row(const fennhop_row *a, const fennhop_row *b)
+{
+    return a->low == b->low && a->high == b->high && a->cross == b->cross;
+}
+
+/* COUNT and its rows; above 100 the count alone. */
+static void fill_rows(void)
+{
+    rows.count = (size_t)number();
+    if (rows.count > WRITTEN) {
+        if (rows.count > BLANK / 3)
+            fail("a count of rows is larger than the driver's blank pages");
+        rows.lent = blank_rows;
+        return;
+    }
+    for (size_t i = 0; i < rows.count; i++) {
+        rows.copy[i].low = number();
+        rows.copy[i].high = number();
+        rows.copy[i].cross = number();
+        rows.space[i + 1] = rows.copy[i];
+    }
+    rows.space[0] = rows.space[rows.count + 1] = GUARD_ROW;
+    rows.lent = rows.count ? rows.space + 1 : NULL;
+}
+
+static void guarded_rows(void)
+{
+    if (rows.lent == blank_rows)
+        return;
+    if (!same_row(&rows.space[0], &GUARD_ROW) || !same_row(&rows.space[rows.count + 1], &GUARD_ROW))
+        fail("a number beside the lent rows was changed");
+}
+
+static void unchanged_rows(void)
+{
+    static const fennhop_row fresh;
+    int all_fresh = rows.lent == blank_rows;
+    size_t count = all_fresh ? OPEN / sizeof(fennhop_row) : rows.count;
+    for (size_t i = 0; i < count; i++)
+        if (!same_row(&rows.lent[i], all_fresh ? &fresh : &rows.copy[i]))
+            fail("a refused call changed a row");
+}
+
+static void write_rows(void)
+{
+    printf(" %zu", rows.count);
+    if (rows.lent == blank_rows)
+        return;
+    for (size_t i = 1; i <= rows.count; i++)
+        printf(" %" PRId64 " %" PRId64 " %" PRId64, rows.space[i].low, rows.space[i].high, rows.space[i].cross);
+}
 
 static void lend_answer(void)
 {
@@ -123,7 +186,7 @@ static void lend_answer(void)
 static void open_traverse(void)
 {
     int64_t latitude = number(), friction = number(), initial = number();
-    points(&line, 2);
+    points(&line, FENNHOP_POINTS_STRIDE);
     static char fresh[] = "7 7";
     at = fresh;
     fill(&state, FENNHOP_STATE);
@@ -141,9 +204,9 @@ static void open_traverse(void)
     }
 }
 
-static void write_all(const struct lent *a, size_t width)
+static void write_all(const struct lent *a)
 {
-    printf(" %zu", a->count / width);
+    printf(" %zu", a->count);
     for (size_t i = 0; i < a->count; i++)
         printf(" %" PRId64, a->numbers[i]);
 }
@@ -151,31 +214,31 @@ static void write_all(const struct lent *a, size_t width)
 static void take_record(void)
 {
     int64_t latitude = number(), friction = number(), initial = number();
-    points(&line, 2);
+    points(&line, FENNHOP_POINTS_STRIDE);
     fill(&state, FENNHOP_STATE);
-    fill(&rows, 3 * (size_t)number());
+    fill_rows();
     fill(&setup, (size_t)number());
     int64_t seconds = number(), tide = number();
-    points(&storm, 3);
+    points(&storm, FENNHOP_STORM_STRIDE);
     lend_answer();
     uint64_t n = fennhop_take_record(latitude, friction, initial, given(&line), line.count, seconds, tide, given(&storm),
-                                     storm.count, lend(&state), state.count, lend(&rows), rows.count, lend(&setup),
+                                     storm.count, lend(&state), state.count, rows.lent, rows.count, lend(&setup),
                                      setup.count, lend(&answer), answer.count);
     check_given(&line);
     check_given(&storm);
     guarded(&state);
-    guarded(&rows);
+    guarded_rows();
     guarded(&setup);
     guarded(&answer);
     if (n) {
         unchanged(&state);
-        unchanged(&rows);
+        unchanged_rows();
         unchanged(&setup);
     }
     printf("%" PRIu64 " %" PRId64 " %" PRId64 " %" PRId64 " %" PRId64 " %" PRId64, n, answer.numbers[0], answer.numbers[1],
            answer.numbers[2], state.numbers[0], state.numbers[1]);
-    write_all(&rows, 3);
-    write_all(&setup, 1);
+    write_rows();
+    write_all(&setup);
     putchar('\n');
 }
 
@@ -238,6 +301,15 @@ static void request(char *text)
         puts("skip");
 }
 
+/* Pages of zeros that cannot be written. */
+static void *zeros(void)
+{
+    void *pages = mmap(NULL, BLANK * sizeof(int64_t), PROT_READ, MAP_PRIVATE | MAP_ANONYMOUS | MAP_NORESERVE, -1, 0);
+    if (pages == MAP_FAILED)
+        fail("no blank pages");
+    return pages;
+}
+
 int main(void)
 {
     static char in[1 << 20], out[1 << 20];
@@ -245,9 +317,10 @@ int main(void)
     size_t size = 0;
     setvbuf(stdin, in, _IOFBF, sizeof in);
     setvbuf(stdout, out, _IOFBF, sizeof out);
-    blank = mmap(NULL, BLANK * sizeof(int64_t), PROT_READ, MAP_PRIVATE | MAP_ANONYMOUS | MAP_NORESERVE, -1, 0);
-    if (blank == MAP_FAILED)
-        fail("no blank pages");
+    blank = zeros();
+    blank_rows = zeros();
+    if (mprotect(blank_rows, OPEN, PROT_READ | PROT_WRITE))
+        fail("no blank rows");
     while (getline(&text, &size, stdin) > 0)
         request(text);
     if (ferror(stdin) || fflush(stdout))

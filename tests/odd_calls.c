@@ -1,64 +1,120 @@
-/* Calls of the library that only a program in another language can make: counts that are no multiple of a point or a row, a `state`
- * or `answer` of another length, no numbers at all, the ends of int64_t. Every array lies between two guard numbers and is compared with a copy. */
+/* Calls of the library that only a program in another language can make: counts that are no multiple of a point, any count of rows, a
+ * `state` or `answer` of another length, no numbers at all, the ends of int64_t. Every array lies between guard numbers and is
+ * compared with a copy. */
 #include <inttypes.h>
+#include <stddef.h>
 #include <stdio.h>
 #include <string.h>
+#include <sys/mman.h>
 #include "../include/surge.h"
 #include "expect.h"
 
-enum { ROOM = 512 };
+enum { ROOM = 512, STATE = 0, SETUP, ANSWER, NUMBERS, MANY = FENNHOP_MOST_SEGMENTS };
 static const int64_t GUARD = INT64_C(0x5bd1e995a5a5a5a5);
 
 /* document 01's listing storm, two points */
 static const int64_t points[] = {10, 500, 0, 500, 0, 0, 0, 0};
 static const int64_t first[] = {1000, 0, 0, 1000, 0, 0, 0, 0, 0};
+/* a traverse and a record of the most points */
+static int64_t long_points[2 * FENNHOP_MOST_POINTS], long_first[3 * FENNHOP_MOST_POINTS];
 
-static int64_t state[ROOM], rows[ROOM], setup[ROOM], answer[ROOM];
-static int64_t was[4][ROOM];
-static int64_t *const lent[4] = {state, rows, setup, answer};
+/* What is lent, each with a guard before it and guards behind. */
+static int64_t space[NUMBERS][ROOM], was[NUMBERS][ROOM];
+static int64_t *const state = space[STATE] + 1, *const setup = space[SETUP] + 1, *const answer = space[ANSWER] + 1;
+static fennhop_row row_space[ROOM], rows_were[ROOM];
+static fennhop_row *const rows = row_space + 1;
 
-static void prepare(void)
+/* Takes a copy of all that is lent. */
+static void keep(void)
 {
-    for (int a = 0; a < 4; a++)
-        for (int i = 0; i < ROOM; i++)
-            lent[a][i] = GUARD;
-    state[0] = state[1] = rows[0] = rows[1] = rows[2] = 0;
-    for (int a = 0; a < 4; a++)
-        memcpy(was[a], lent[a], sizeof was[a]);
+    memcpy(was, space, sizeof was);
+    memcpy(rows_were, row_space, sizeof rows_were);
 }
 
-static int same(int a, int from)
+/* A fresh state, so many fresh rows, and guards in all other places. */
+static void prepare(size_t fresh)
 {
-    return !memcmp(lent[a] + from, was[a] + from, (ROOM - from) * sizeof(int64_t));
+    for (int i = 0; i < ROOM; i++) {
+        for (int a = 0; a < NUMBERS; a++)
+            space[a][i] = GUARD;
+        row_space[i] = (fennhop_row){GUARD, GUARD, GUARD};
+    }
+    state[0] = state[1] = 0;
+    for (size_t i = 0; i < fresh; i++)
+        rows[i] = (fennhop_row){0, 0, 0};
+    keep();
+}
+
+/* All but the first `count` numbers of an array are as they were. */
+static int same(int a, int count)
+{
+    return space[a][0] == was[a][0] && !memcmp(space[a] + 1 + count, was[a] + 1 + count, (ROOM - 1 - count) * sizeof(int64_t));
+}
+
+static int is_row(const fennhop_row *row, int64_t low, int64_t high, int64_t cross)
+{
+    return row->low == low && row->high == high && row->cross == cross;
+}
+
+/* All but the first `count` rows are as they were. */
+static int same_rows(int count)
+{
+    for (int i = 0; i < ROOM; i++) {
+        const fennhop_row *r = &rows_were[i];
+        if ((i == 0 || i > count) && !is_row(&row_space[i], r->low, r->high, r->cross))
+            return 0;
+    }
+    return 1;
 }
 
 /* A refusal: number and place, and nothing changed but the answer's three numbers. */
 static void refused(const char *what, uint64_t got, uint64_t number, int64_t place)
 {
     expect(what, got == number && answer[0] == place && answer[1] == 0 && answer[2] == 0);
-    expect(what, same(0, 0) && same(1, 0) && same(2, 0) && same(3, FENNHOP_ANSWER));
+    expect(what, same(STATE, 0) && same_rows(0) && same(SETUP, 0) && same(ANSWER, FENNHOP_ANSWER));
 }
 
 static void untouched(const char *what, uint64_t got)
 {
     expect(what, got == FENNHOP_WRONG_BUFFER);
-    expect(what, same(0, 0) && same(1, 0) && same(2, 0) && same(3, 0));
+    expect(what, same(STATE, 0) && same_rows(0) && same(SETUP, 0) && same(ANSWER, 0));
 }
 
 static uint64_t take(size_t points_count, size_t storm_count, size_t state_count, size_t rows_count, size_t setup_count,
                      size_t answer_count)
 {
-    prepare();
+    prepare(1);
     return fennhop_take_record(300, 25, 0, points_count ? points : NULL, points_count, 0, 0, storm_count ? first : NULL,
                                storm_count, state_count ? state : NULL, state_count, rows_count ? rows : NULL, rows_count,
                                setup_count ? setup : NULL, setup_count, answer_count ? answer : NULL, answer_count);
 }
 
+/* A record of the most points, on the rows as they are. */
+static uint64_t take_long(fennhop_row *lent, size_t rows_count, size_t setup_count)
+{
+    return fennhop_take_record(300, 25, 0, long_points, 2 * FENNHOP_MOST_POINTS, 0, 0, long_first, 3 * FENNHOP_MOST_POINTS, state,
+                               FENNHOP_STATE, lent, rows_count, setup_count ? setup : NULL, setup_count, answer, FENNHOP_ANSWER);
+}
+
 static uint64_t open(size_t points_count, size_t state_count, size_t answer_count)
 {
-    prepare();
+    prepare(1);
     return fennhop_open_traverse(300, 25, 0, points_count ? points : NULL, points_count, state_count ? state : NULL, state_count,
                                  answer_count ? answer : NULL, answer_count);
+}
+
+/* What the header says of itself and of a row. */
+static void header(void)
+{
+    char version[32];
+    snprintf(version, sizeof version, "%d.%d.%d", FENNHOP_VERSION_NUMBER / 10000, FENNHOP_VERSION_NUMBER / 100 % 100,
+             FENNHOP_VERSION_NUMBER % 100);
+    expect("both versions", !strcmp(version, FENNHOP_VERSION));
+    expect("a row is three numbers", sizeof(fennhop_row) == 3 * sizeof(int64_t));
+    expect("low, high, cross", offsetof(fennhop_row, low) == 0 && offsetof(fennhop_row, high) == sizeof(int64_t) &&
+                                   offsetof(fennhop_row, cross) == 2 * sizeof(int64_t));
+    expect("the lengths for the most points", FENNHOP_READ_POINTS == FENNHOP_POINTS_STRIDE * FENNHOP_MOST_POINTS &&
+                                                  FENNHOP_READ_STORM == FENNHOP_STORM_STRIDE * FENNHOP_MOST_POINTS);
 }
 
 static void counts(void)
@@ -66,40 +122,74 @@ static void counts(void)
     for (size_t n = 0; n < 9; n++) {
         int64_t whole = n % 2 ? 0 : (int64_t)n / 2;
         if (whole < 2) {
-            refused("points of a traverse that is opened", open(n, 2, 3), 5, whole);
-            refused("points of a traverse", take(n, 6, 2, 3, 0, 3), 5, whole);
+            refused("points of a traverse that is opened", open(n, 2, 3), FENNHOP_REFUSED_POINTS, whole);
+            refused("points of a traverse", take(n, 6, 2, 1, 0, 3), FENNHOP_REFUSED_POINTS, whole);
         }
         if (n != 6)
-            refused("points of a record", take(4, n, 2, 3, 0, 3), 8, 0);
-        if (n != 3)
-            refused("rows", take(4, 6, 2, n, 0, 3), 8, 0);
+            refused("points of a record", take(4, n, 2, 1, 0, 3), FENNHOP_REFUSED_LENT, 0);
+        if (n != 1)
+            refused("rows", take(4, 6, 2, n, 0, 3), FENNHOP_REFUSED_LENT, 0);
         if (n != 0 && n != 2)
-            refused("setup places", take(4, 6, 2, 3, n, 3), 8, 0);
+            refused("setup places", take(4, 6, 2, 1, n, 3), FENNHOP_REFUSED_LENT, 0);
         if (n != 2) {
-            untouched("a state of another length", take(4, 6, n, 3, 0, 3));
+            untouched("a state of another length", take(4, 6, n, 1, 0, 3));
             untouched("a state of another length, opening", open(4, n, 3));
         }
         if (n != 3) {
-            untouched("an answer of another length", take(4, 6, 2, 3, 0, n));
+            untouched("an answer of another length", take(4, 6, 2, 1, 0, n));
             untouched("an answer of another length, opening", open(4, 2, n));
         }
     }
     untouched("nothing at all", take(0, 0, 0, 0, 0, 0));
     untouched("nothing at all, opening", open(0, 0, 0));
-    refused("rows past 64", take(4, 6, 2, 3 * 65, 0, 3), 8, 0);
+}
+
+/* Any count of rows but the one that fits, for one segment and for the most. What lies behind the 64th is not looked at. */
+static void rows_lent(void)
+{
+    static const size_t wrong[] = {0, 63, 65, 200, ROOM - 2};
+    for (int i = 0; i < 5; i++) {
+        refused("many rows, one segment", take(4, 6, 2, wrong[i], 0, 3), FENNHOP_REFUSED_LENT, 0);
+        prepare(ROOM - 2);
+        refused("rows that do not fit 64 segments", take_long(wrong[i] ? rows : NULL, wrong[i], 0), FENNHOP_REFUSED_LENT, 0);
+    }
+    prepare(MANY);
+    expect("64 rows", take_long(rows, MANY, 2 * MANY) == 0 && state[0] == 0 && state[1] == 1);
+    expect("what lies beside", same(STATE, 2) && same_rows(MANY) && same(SETUP, 2 * MANY) && same(ANSWER, 3));
+    for (int i = 0; i < MANY; i++)
+        expect("a row of a first record", is_row(&rows[i], 0, 0, INT64_C(57280000) * 10000));
+}
+
+/* Very many rows, all fresh, in memory that cannot be written: a refused call writes none, however many there are. */
+static void very_many_rows(void)
+{
+    const size_t most = ((size_t)1 << 32) + MANY;
+    fennhop_row *blank = mmap(NULL, most * sizeof(fennhop_row), PROT_READ, MAP_PRIVATE | MAP_ANONYMOUS | MAP_NORESERVE, -1, 0);
+    if (blank == MAP_FAILED) {
+        expect("blank pages", 0);
+        return;
+    }
+    static const size_t past[] = {MANY + 1, 1000, (size_t)1 << 31, (size_t)1 << 32, ((size_t)1 << 32) + MANY};
+    for (int i = 0; i < 5; i++) {
+        prepare(0);
+        refused("very many rows", take_long(blank, past[i], 0), FENNHOP_REFUSED_LENT, 0);
+    }
+    prepare(0);
+    refused("64 rows that cannot be written", take_long(blank, MANY, 1), FENNHOP_REFUSED_LENT, 0);
+    munmap(blank, most * sizeof(fennhop_row));
 }
 
 static void accepted(void)
 {
     for (size_t places = 0; places < 4; places += 2) {
-        expect("the first record", take(4, 6, 2, 3, places, 3) == 0);
+        expect("the first record", take(4, 6, 2, 1, places, 3) == 0);
         expect("its state", state[0] == 0 && state[1] == 1);
-        expect("its row", rows[0] == 0 && rows[1] == 0 && rows[2] == 0);
+        expect("its row", is_row(rows, 0, 0, 0));
         expect("its height", answer[0] == 0 && answer[1] == 2325 && answer[2] == 2326);
-        expect("its setup places", places == 0 ? same(2, 0) : setup[0] == 2325 && setup[1] == 2326);
-        expect("what lies beside", same(0, 2) && same(1, 3) && same(2, 2) && same(3, 3));
+        expect("its setup places", places == 0 ? same(SETUP, 0) : setup[0] == 2325 && setup[1] == 2326);
+        expect("what lies beside", same(STATE, 2) && same_rows(1) && same(SETUP, 2) && same(ANSWER, 3));
     }
-    expect("opening", open(4, 2, 3) == 0 && state[0] == 0 && state[1] == 0 && same(0, 2) && same(3, 3));
+    expect("opening", open(4, 2, 3) == 0 && state[0] == 0 && state[1] == 0 && same(STATE, 2) && same_rows(0) && same(ANSWER, 3));
     expect("its answer", answer[0] == 0 && answer[1] == 0 && answer[2] == 0);
 }
 
@@ -108,44 +198,68 @@ static void started(void)
 {
     static const int64_t yes[] = {1, -1, 7, INT64_MAX, INT64_MIN};
     for (int i = 0; i < 5; i++) {
-        prepare();
-        state[1] = was[0][1] = yes[i];
-        uint64_t n = fennhop_take_record(300, 25, 0, points, 4, 0, 0, first, 6, state, 2, rows, 3, NULL, 0, answer, 3);
-        refused("seconds 0 in a later record", n, 9, 0);
-        n = fennhop_take_record(300, 25, 0, points, 4, 1600, 50, first, 6, state, 2, rows, 3, NULL, 0, answer, 3);
+        prepare(1);
+        state[1] = yes[i];
+        keep();
+        uint64_t n = fennhop_take_record(300, 25, 0, points, 4, 0, 0, first, 6, state, 2, rows, 1, NULL, 0, answer, 3);
+        refused("seconds 0 in a later record", n, FENNHOP_REFUSED_RECORD_VALUE, 0);
+        n = fennhop_take_record(300, 25, 0, points, 4, 1600, 50, first, 6, state, 2, rows, 1, NULL, 0, answer, 3);
         expect("a later record", n == 0 && state[0] == 1600 && state[1] == 1);
         expect("its height", answer[1] == 7302 && answer[2] == 7303);
     }
 }
 
+static const int64_t end[] = {INT64_MAX, INT64_MIN};
+
 /* The ends of int64_t in every number. */
 static void ends(void)
 {
-    static const int64_t end[] = {INT64_MAX, INT64_MIN};
     for (int e = 0; e < 2; e++)
         for (int i = 0; i < 19; i++) {
             int64_t head[3] = {300, 25, 0}, line[4], times[2] = {0, 0}, storm[6];
             memcpy(line, points, sizeof line);
             memcpy(storm, first, sizeof storm);
-            prepare();
-            int64_t *places[] = {head, head + 1, head + 2, line, line + 1, line + 2, line + 3, rows, rows + 1, rows + 2, times,
-                                 times + 1, state, storm, storm + 1, storm + 2, storm + 3, storm + 4, storm + 5};
+            prepare(1);
+            int64_t *places[] = {head, head + 1, head + 2, line, line + 1, line + 2, line + 3, &rows->low, &rows->high, &rows->cross,
+                                 times, times + 1, state, storm, storm + 1, storm + 2, storm + 3, storm + 4, storm + 5};
             static const int number[] = {6, 6, 6, 6, 6, 6, 6, 8, 8, 8, 9, 9, 9, 9, 9, 9, 9, 9, 9};
             static const int place[] = {0, 0, 0, 1, 1, 2, 2, 1, 1, 1, 0, 0, 0, 1, 1, 1, 2, 2, 2};
             *places[i] = end[e];
-            memcpy(was[0], state, sizeof was[0]);
-            memcpy(was[1], rows, sizeof was[1]);
-            uint64_t n = fennhop_take_record(head[0], head[1], head[2], line, 4, times[0], times[1], storm, 6, state, 2, rows, 3, setup,
+            keep();
+            uint64_t n = fennhop_take_record(head[0], head[1], head[2], line, 4, times[0], times[1], storm, 6, state, 2, rows, 1, setup,
                                              2, answer, 3);
             refused("an end of int64_t", n, number[i], place[i]);
         }
 }
 
+/* The ends of int64_t in each of 64 rows; the first bad row is told, whatever stands in the later ones. */
+static void row_ends(void)
+{
+    for (int k = 0; k < MANY; k++)
+        for (int e = 0; e < 8; e++) {
+            prepare(MANY);
+            rows[k] = (fennhop_row){e & 1 ? end[0] : end[1], e & 2 ? end[0] : end[1], e & 4 ? end[0] : end[1]};
+            rows[MANY - 1].cross = end[e & 1];
+            keep();
+            refused("a row of the ends of int64_t", take_long(rows, MANY, 2 * MANY), FENNHOP_REFUSED_LENT, k + 1);
+        }
+}
+
 int main(void)
 {
+    for (int i = 0; i < FENNHOP_MOST_POINTS; i++) {
+        long_points[2 * i] = 10 * (FENNHOP_MOST_POINTS - 1 - i);
+        long_points[2 * i + 1] = 500;
+        long_first[3 * i] = 1000;
+        long_first[3 * i + 1] = 900;
+    }
+    header();
     counts();
+    rows_lent();
+    very_many_rows();
     accepted();
     started();
     ends();
+    row_ends();
     return summary();
 }

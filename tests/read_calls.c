@@ -1,13 +1,13 @@
 /* Reading the texts of a traverse and a storm through the library: the numbers of document 01's listing, refusals 1 to 5 with their
- * places, arrays of another length, any cursor. Every array lies before guard numbers and is compared with a copy. It
- * is given the folder of the listing, examples/listing by default. */
+ * places and in their order, arrays of another length, any cursor. Every array lies before guard numbers and is compared with a copy.
+ * It is given the folder of the listing, examples/listing by default. */
 #include <inttypes.h>
 #include <stdio.h>
 #include <string.h>
 #include "../include/surge.h"
 #include "expect.h"
 
-enum { ROOM = 256, BYTES = 4096 };
+enum { ROOM = 256, BYTES = 4096, MOST = FENNHOP_MOST_POINTS };
 static const int64_t GUARD = INT64_C(0x5bd1e995a5a5a5a5);
 
 static int64_t head[ROOM], points[ROOM], cursor[ROOM], values[ROOM], storm[ROOM], answer[ROOM];
@@ -112,7 +112,8 @@ static void listing_traverse(void)
 static void listing_storm(void)
 {
     static const int64_t seconds[] = {0, 1600}, tide[] = {0, 50}, bytes[] = {58, 92}, lines[] = {3, 5}, low[] = {2325, 7302};
-    int64_t state[2], rows[3] = {0, 0, 0}, told_by_march[3];
+    int64_t state[2], told_by_march[3];
+    fennhop_row row = {0, 0, 0};
     read_traverse(traverse_text, traverse_count);
     uint64_t n = fennhop_open_traverse(head[0], head[1], head[2], points, 2 * answer[1], state, 2, told_by_march, 3);
     expect("the traverse opened", n == 0);
@@ -123,7 +124,7 @@ static void listing_storm(void)
         expect("its values", values[0] == seconds[i] && values[1] == tide[i]);
         expect("its points", storm[0] == 1000 && storm[3] == 1000 && zeros(storm, 1, 3) && zeros(storm, 4, FENNHOP_READ_STORM));
         expect("what lies beside", same(CURSOR, 2) && same(VALUES, 2) && same(STORM, FENNHOP_READ_STORM) && same(ANSWER, 3));
-        n = fennhop_take_record(head[0], head[1], head[2], points, 4, values[0], values[1], storm, 6, state, 2, rows, 3, NULL, 0,
+        n = fennhop_take_record(head[0], head[1], head[2], points, 4, values[0], values[1], storm, 6, state, 2, &row, 1, NULL, 0,
                                 told_by_march, 3);
         expect("its height", n == 0 && told_by_march[1] == low[i] && told_by_march[2] == low[i] + 1);
     }
@@ -167,6 +168,42 @@ static void refusals(void)
     refused("one point", first_record(STORM_NAMES "0 0 1 2 3\n", 1), 5, 1);
     refused("66 points", first_record(STORM_NAMES "0 0 1 2 3\n", 66), 5, 66);
     refused("the most points", first_record(STORM_NAMES "0 0 1 2 3\n", SIZE_MAX), 5, INT64_MAX);
+}
+
+/* Which of two faults is told. */
+static void orders(void)
+{
+    refused("names before points", first_record("seconds tide wind angle\n", 66), 1, 1);
+    refused("points before lines", first_record(STORM_NAMES "0 0 1 2\n", 66), 5, 66);
+    refused("points before the end", first_record(STORM_NAMES, 1), 5, 1);
+    prepare(92, 5);
+    refused("points at the end", read_record(storm_text, storm_count, 0), 5, 0);
+    refused("malformed before differing", first_record(STORM_NAMES "0 0 1 2 3\n1 0 1 2\n", 2), 2, 3);
+    refused("the earlier line", first_record(STORM_NAMES "0 0 1 2 3\n1 0 1 2 3\n0 0 1 2\n", 3), 4, 3);
+    refused("a faulty line before the end", first_record(STORM_NAMES "0 0 1 2 3\n0 1 1 2 3\n", 3), 4, 3);
+    refused("no last line feed", first_record(STORM_NAMES "0 0 1 2 3\n0 0 1 2 3", 2), 2, 3);
+    traverse_refused(TRAVERSE "10 500 1\ndistance depth\n", 2, 4);
+    traverse_refused("latitude friction initial\n300 25\ndistance\n", 2, 2);
+}
+
+/* A fault in the last line of the most points leaves everything as it was. */
+static void late_faults(void)
+{
+    static const char *const last[] = {"", "0 0 1 2\n", "0 0 1 2 3", "0 1 1 2 3\n", "0 0 1 2 3 4\n", "0 0 1 2 x\n"};
+    static const int number[] = {3, 2, 2, 4, 2, 2};
+    static char text[BYTES];
+    for (int i = 0; i < 6; i++) {
+        int used = sprintf(text, STORM_NAMES);
+        for (int k = 1; k < MOST; k++)
+            used += sprintf(text + used, "0 0 %d 2 3\n", k);
+        strcpy(text + used, last[i]);
+        refused("a fault in the last of 65 lines", first_record(text, MOST), number[i], i ? 1 + MOST : MOST);
+    }
+    int used = sprintf(text, TRAVERSE);
+    for (int k = 0; k < 70; k++)
+        used += sprintf(text + used, "%d 500\n", k);
+    strcpy(text + used, "1 -\n");
+    traverse_refused(text, 2, 74);
 }
 
 /* 65 points have a place, 66 are refused. */
@@ -241,6 +278,8 @@ int main(int n, char **args)
     listing_storm();
     places();
     refusals();
+    orders();
+    late_faults();
     many();
     lengths();
     cursors();

@@ -30,6 +30,12 @@ class Numbers:
         count = self.one()
         return tuple(self.groups(count, width)) if count <= 100 else range(count)
 
+    def rows(self):
+        count = self.one()
+        if count > 100:
+            return range(count)
+        return [march.Row(*row) for row in self.groups(count, 3)]
+
     def traverse(self):
         head = self.some(3)
         return march.Traverse(*head, self.points(2))
@@ -54,7 +60,7 @@ def open_traverse(numbers):
 def record(numbers):
     traverse = numbers.traverse()
     state = march.State(numbers.one(), numbers.one() == 1)
-    rows = [march.Row(*row) for row in numbers.groups(numbers.one(), 3)]
+    rows = numbers.rows()
     places = list(numbers.some(numbers.one()))
     seconds, tide = numbers.some(2)
     taken = march.Record(seconds, tide, numbers.points(3))
@@ -64,7 +70,7 @@ def record(numbers):
     else:
         head = [0, 0, answer.low, answer.high]
         state = answer.state
-    flat = [number for row in rows for number in row]
+    flat = [number for row in rows for number in row] if len(rows) <= 100 else []
     left = [state.elapsed, int(state.accepted), len(rows), *flat, len(places), *places]
     return head + left
 

@@ -19,16 +19,17 @@ static int refused(uint64_t number, const int64_t *answer)
 int main(void)
 {
     int64_t state[FENNHOP_STATE], answer[FENNHOP_ANSWER];
-    int64_t rows[SEGMENTS][3] = {{0}}; /* a fresh traverse */
-    uint64_t number = fennhop_open_traverse(latitude, friction, initial, points[0], 2 * POINTS, state, FENNHOP_STATE, answer,
-                                            FENNHOP_ANSWER);
+    fennhop_row rows[SEGMENTS] = {{0, 0, 0}}; /* a fresh traverse: all of them 0 */
+    uint64_t number = fennhop_open_traverse(latitude, friction, initial, points[0], FENNHOP_POINTS_STRIDE * POINTS, state,
+                                            FENNHOP_STATE, answer, FENNHOP_ANSWER);
     if (number)
         return refused(number, answer);
     puts("seconds low high");
     for (int i = 0; i < RECORDS; i++) {
         const struct record *r = &storm[i];
-        number = fennhop_take_record(latitude, friction, initial, points[0], 2 * POINTS, r->seconds, r->tide, r->points[0],
-                                     3 * POINTS, state, FENNHOP_STATE, rows[0], 3 * SEGMENTS, NULL, 0, answer, FENNHOP_ANSWER);
+        number = fennhop_take_record(latitude, friction, initial, points[0], FENNHOP_POINTS_STRIDE * POINTS, r->seconds, r->tide,
+                                     r->points[0], FENNHOP_STORM_STRIDE * POINTS, state, FENNHOP_STATE, rows, SEGMENTS, NULL, 0,
+                                     answer, FENNHOP_ANSWER);
         if (number)
             return refused(number, answer);
         printf("%" PRId64 " %" PRId64 " %" PRId64 "\n", state[0], answer[1], answer[2]);

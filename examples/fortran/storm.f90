@@ -10,10 +10,11 @@ program storm
   implicit none
 
   include 'numbers.inc'  ! latitude, friction, initial; points(:, n), times(:, records), winds(:, n, records)
-  integer(c_int64_t) :: state(state_count), answer(answer_count), rows(3, n - 1), setup(2, n - 1), number
+  integer(c_int64_t) :: state(state_count), answer(answer_count), setup(setup_stride, n - 1), number
+  type(fennhop_row) :: rows(n - 1)
   integer :: i
 
-  rows = 0
+  rows = fennhop_row(0, 0, 0)  ! a fresh traverse
   number = fennhop_open_traverse(latitude, friction, initial, points, size(points, kind=c_size_t), &
                                  state, state_count, answer, answer_count)
   if (number /= 0) call refused()

@@ -1,27 +1,25 @@
 -- A step asks for more of the text only where its window is short of what comes next, so that a window of 3,575 bytes has room for more.
 -- For the callers of `refill`. Assumes nothing.
 use mathlib.Core.Path.{_≡_, refl}
-use mathlib.Core.Bool.{Bool, true, false}
+use mathlib.Core.Bool.{Bool, true, false, cond}
 use mathlib.Core.List.{List}
 use native.Mathlib.Omega.{arith}
 use Prim.Native.Nat.{ℕ, zero, suc, _+_, _*_, _<_, _≤_}
-use lib.Dec.{ltb, leb}
+use lib.Dec.{ltb}
 use lib.ListN.{length}
+use lib.IntN.{ℤ}
 use borrow.Author.Tests.{leb-false}
-use Rattle.records.specs.declared.Traverse.{Traverse}
-use Rattle.reader.specs.declared.storm.Step.{Step}
-use Rattle.reader.specs.declared.storm.Step.the-variants as step
+use Rattle.records.specs.Limits.{countOk, mostPoints}
 use Rattle.reader.specs.declared.storm.RecordStep.{RecordStep}
+use Rattle.reader.specs.declared.storm.RecordStep.the-variants as step
 use Rattle.reader.specs.declared.storm.StartStep.{StartStep}
 use Rattle.reader.specs.declared.storm.StartStep.the-variants as start-step
 use Rattle.reader.specs.declared.traverse.Known.{Known}
 use Rattle.reader.specs.declared.traverse.Progress.{Progress}
 use Rattle.reader.specs.declared.traverse.Progress.the-variants as progress
-use Rattle.reader.specs.declared.traverse.TraverseStep.{TraverseStep}
-use Rattle.reader.specs.Text.{pick}
-use Rattle.reader.specs.Lines.{Outcome, read, refused, holds}
-use Rattle.reader.specs.Storm.{stormStart, noRecord, counts, nextAt, recordRead, startStep, holdsRecord, recordStep}
-use Rattle.reader.specs.Traverse.{lineAt, endAt, endStep, onStep, moreStep, stepAt, traverseStep}
+use Rattle.reader.specs.Lines.{Outcome, read, refused, Leaves, leaves, holds}
+use Rattle.reader.specs.Storm.{stormStart, nextLeft, startStep, holdsRecord, recordStepLeft}
+use Rattle.reader.specs.Traverse.{Held, lineAt, endOf, endStep, endLeft, onStep, moreStep, stepAt, traverseStep}
 use Rattle.reader.proofs.StormLaws.{counts-in}
 use Rattle.reader.proofs.TraverseLaws.{Past, line-on}
 
@@ -41,27 +39,25 @@ pub start-asks : (w : List ℕ) (last : Bool) → AsksStart (length w) (startSte
 unfolding startStep
 start-asks w last = go (holds (length w) last 0 32) refl
   where
-    go : (b : Bool) → holds (length w) last 0 32 ≡ b → AsksStart (length w) (pick b (start-step.Answer (stormStart w)) start-step.More)
+    go : (b : Bool) → holds (length w) last 0 32 ≡ b → AsksStart (length w) (cond b (start-step.Answer (stormStart w)) start-step.More)
     go true e = tt
     go false e = holds-not (length w) last 0 32 e
 
 -- at a record, which takes 55 bytes for each of 65 lines at most
-abbrev pub AsksRecord : ℕ → ℕ → Step → Type 0
+abbrev pub AsksRecord : ℕ → ℕ → RecordStep → Type 0
 AsksRecord size at step.More = size < at + 3575
 AsksRecord size at (step.Answer r) = Unit {0}
 
-pub record-asks : (w : List ℕ) (last : Bool) (n at line : ℕ) → AsksRecord (length w) at (recordStep w last n at line .answer)
-unfolding recordStep holdsRecord
-record-asks w last n at line = go (counts n) refl (holds (length w) last at (n * 55)) refl
+pub record-asks : (w : List ℕ) (last : Bool) (n at line : ℕ) (lent : List ℤ) → AsksRecord (length w) at (recordStepLeft w last n at line lent .answer)
+unfolding recordStepLeft holdsRecord
+record-asks w last n at line lent = go (countOk mostPoints n) refl (holds (length w) last at (n * 55)) refl
   where
-    stepped : Bool → RecordStep
-    stepped b =
-        pick b (record { answer = step.Answer (recordRead (nextAt w n at line) .answer); got = recordRead (nextAt w n at line) .got })
-        (record { answer = step.More; got = noRecord })
+    stepped : Bool → Leaves RecordStep
+    stepped b = cond b (leaves (step.Answer (nextLeft w n at line lent .answer)) (nextLeft w n at line lent .numbers)) (leaves step.More lent)
 
-    go : (b : Bool) → counts n ≡ b → (c : Bool) → holds (length w) last at (n * 55) ≡ c → AsksRecord (length w) at (stepped (pick b c true) .answer)
+    go : (b : Bool) → countOk mostPoints n ≡ b → (c : Bool) → holds (length w) last at (n * 55) ≡ c → AsksRecord (length w) at (stepped (cond b c true) .answer)
     go true e true f = tt
-    go true e false f = let k = counts-in n e in omega (arith, holds-not (length w) last at (n * 55) f)
+    go true e false f = let k = counts-in mostPoints n e in omega (arith, holds-not (length w) last at (n * 55) f)
     go false e c f = tt
 
 -- ---- a traverse text, at a line, which takes 33 bytes at most
@@ -69,36 +65,36 @@ record-asks w last n at line = go (counts n) refl (holds (length w) last at (n *
 abbrev pub Asks : ℕ → Progress → Type 0
 Asks size progress.Read = Unit {0}
 Asks size (progress.More c) = size < c .at + 33
-Asks size (progress.Refused n p) = Unit {0}
+Asks size (progress.Refused r) = Unit {0}
 
-asks-end : (size : ℕ) (o : Outcome Traverse) → Asks size (endStep o .answer)
+asks-end : (size : ℕ) (o : Outcome Known) → Asks size (endStep o .answer)
 unfolding endStep
-asks-end size (read t a l) = tt
-asks-end size (refused n p) = tt
+asks-end size (read k a l) = tt
+asks-end size (refused r) = tt
 
 module _ (w : List ℕ) (last : Bool) where
   -- f lines are enough where no more bytes are left
-  step-asks : (f : ℕ) (k : Known) (at line : ℕ) → length w ≤ at + f → Asks (length w) (stepAt w last f k at line .answer)
+  step-asks : (f : ℕ) (h : Held) (at line : ℕ) → length w ≤ at + f → Asks (length w) (stepAt w last f h at line .answer .answer)
   unfolding stepAt
-  step-asks zero k at line h = go last
+  step-asks zero h at line g = go last
     where
-      go : (b : Bool) → Asks (length w) (pick b (endStep (endAt k at line)) (moreStep k at line) .answer)
-      go true = asks-end (length w) (endAt k at line)
+      go : (b : Bool) → Asks (length w) (cond b (endLeft (endOf h at line)) (moreStep h at line) .answer .answer)
+      go true = asks-end (length w) (endOf h at line .answer)
       go false = omega arith
-  step-asks (suc f) k at line h = go (holds (length w) last at 33) refl (ltb at (length w)) (lineAt w k at line) (line-on w k at line) (λ k a l p. step-asks f k a l p)
+  step-asks (suc f) h at line g = go (holds (length w) last at 33) refl (ltb at (length w)) (lineAt w h at line) (line-on w h at line) (λ k a l p. step-asks f k a l p)
     where
-      onto : (r : Outcome Known) → Past (at + 1) r → ((k : Known) (a l : ℕ) → length w ≤ a + f → Asks (length w) (stepAt w last f k a l .answer))
-          → Asks (length w) (onStep r (stepAt w last f) .answer)
+      onto : (r : Outcome Held) → Past (at + 1) r → ((k : Held) (a l : ℕ) → length w ≤ a + f → Asks (length w) (stepAt w last f k a l .answer .answer))
+          → Asks (length w) (onStep h r (stepAt w last f) .answer .answer)
       onto (read k a l) p ih = ih k a l (omega arith)
-      onto (refused n p) q ih = asks-end (length w) (refused n p)
+      onto (refused q) p ih = asks-end (length w) (refused q)
 
-      go : (b : Bool) → holds (length w) last at 33 ≡ b → (c : Bool) (r : Outcome Known) → Past (at + 1) r
-          → ((k : Known) (a l : ℕ) → length w ≤ a + f → Asks (length w) (stepAt w last f k a l .answer))
-          → Asks (length w) (pick b (pick c (onStep r (stepAt w last f)) (endStep (endAt k at line))) (moreStep k at line) .answer)
+      go : (b : Bool) → holds (length w) last at 33 ≡ b → (c : Bool) (r : Outcome Held) → Past (at + 1) r
+          → ((k : Held) (a l : ℕ) → length w ≤ a + f → Asks (length w) (stepAt w last f k a l .answer .answer))
+          → Asks (length w) (cond b (cond c (onStep h r (stepAt w last f)) (endLeft (endOf h at line))) (moreStep h at line) .answer .answer)
       go true e true r p ih = onto r p ih
-      go true e false r p ih = asks-end (length w) (endAt k at line)
+      go true e false r p ih = asks-end (length w) (endOf h at line .answer)
       go false e c r p ih = holds-not (length w) last at 33 e
 
-  pub traverse-asks : (k : Known) (at line : ℕ) → Asks (length w) (traverseStep w last k at line .answer)
+  pub traverse-asks : (h : Held) (at line : ℕ) → Asks (length w) (traverseStep w last h at line .answer .answer)
   unfolding traverseStep
-  traverse-asks k at line = step-asks (length w) k at line (omega arith)
+  traverse-asks h at line = step-asks (length w) h at line (omega arith)

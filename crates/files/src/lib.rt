@@ -5,12 +5,14 @@ use libc::STDOUT_FILENO;
 use reader::Cursor;
 use reader::Known;
 use reader::Progress;
-use records::Traverse;
+use records::Head;
+use records::Refusal;
 ghost use mathlib.Core.Path.{_≡_};
 ghost use Prim.Native.Nat.{ℕ, _+_, _-_, _<_, _≤_};
 ghost use lib.ListN.{length};
 ghost use Rattle.reader.specs.Text.{byte};
 ghost use Rattle.files.specs.Filled.{Refills, Refilled};
+ghost use Rattle.files.specs.TraverseFile.{fileOf, HasPoints};
 
 // ---- windows
 
@@ -54,23 +56,32 @@ pub fn refill(fd: i32, buf: &mut [u8], at: usize, have: usize) -> Filled
 // How reading a traverse text ended.
 pub enum Loaded {
     Read,
-    Refused(u64, usize),
+    Refused(Refusal),
     Failed,
 }
 
-pub struct Load {
+// What a traverse text gave beside the lent numbers of its points.
+pub struct TraverseFile {
     pub answer: Loaded,
-    pub traverse: Traverse,
+    pub head: Head,
+    pub count: usize,
 }
 
-fn load_of(answer: Loaded, known: Known) -> Load {
-    let traverse = known.traverse;
-    Load { answer, traverse }
+fn file_of(answer: Loaded, known: Known) -> TraverseFile
+    ensures { λ r. ⌜ r ≡ fileOf answer known ⌝ }
+{
+    let head = known.head;
+    TraverseFile {
+        answer,
+        head,
+        count: known.count,
+    }
 }
 
 // Reads a traverse text to its end, or to its refusal. A file ends, though nothing here says so: the turns are counted down.
-fn load_traverse(fd: i32, buf: &mut [u8]) -> Load
+fn load_traverse(fd: i32, buf: &mut [u8], points: &mut [i64]) -> TraverseFile
     requires { ⌜ 33 ≤ length (now buf) ⌝ }
+    ensures { λ r. ⌜ HasPoints (r .answer) (r .count) (length (now (points .exit))) ⌝ }
 {
     let mut turns: u64 = 0x100_0000_0000_0000;
     let mut k = Known::start();
@@ -79,16 +90,16 @@ fn load_traverse(fd: i32, buf: &mut [u8]) -> Load
     let mut last = fd < 0;
     while turns > 0 {
         turns -= 1;
-        let step = k.step(Cursor { at: 0, line }, &buf[..have], last);
+        let step = k.step(Cursor { at: 0, line }, &buf[..have], last, points);
         let answer = step.answer;
         k = step.known;
         match answer {
-            Progress::Read => return load_of(Loaded::Read, k),
-            Progress::Refused(number, place) => return load_of(Loaded::Refused(number, place), k),
+            Progress::Read => return file_of(Loaded::Read, k),
+            Progress::Refused(refusal) => return file_of(Loaded::Refused(refusal), k),
             Progress::More(c) => match refill(fd, buf, c.at, have) {
                 Filled::Failed => {
                     os::fail(b"traverse.txt");
-                    return load_of(Loaded::Failed, k);
+                    return file_of(Loaded::Failed, k);
                 }
                 Filled::Holds(n, end) => {
                     have = n;
@@ -98,17 +109,18 @@ fn load_traverse(fd: i32, buf: &mut [u8]) -> Load
             },
         }
     }
-    load_of(Loaded::Failed, k)
+    file_of(Loaded::Failed, k)
 }
 
-// Reads `traverse.txt` in the current folder. A file that cannot be opened counts as empty text.
-pub fn read_traverse(buf: &mut [u8]) -> Load
+// Reads `traverse.txt` in the current folder, its points into the lent numbers. A file that cannot be opened counts as empty text.
+pub fn read_traverse(buf: &mut [u8], points: &mut [i64]) -> TraverseFile
     requires { ⌜ 33 ≤ length (now buf) ⌝ }
+    ensures { λ r. ⌜ HasPoints (r .answer) (r .count) (length (now (points .exit))) ⌝ }
 {
     let fd = os::open_read(b"traverse.txt");
-    let load = load_traverse(fd, buf);
+    let file = load_traverse(fd, buf, points);
     libc::close(fd);
-    load
+    file
 }
 
 // ---- the output

@@ -23,13 +23,13 @@ computed =
     forceAt (pos 2700) .low ∷ forceAt (pos 2700) .high ∷ []
 
 -- document 01's numbers: 281,600, 285,156, 28,640,000; 5,000, -5,000, 0; 11,089 to 11,090; -11,090 to -11,089
-abbrev pub given : List ℤ
-given =
+abbrev pub expected : List ℤ
+expected =
     pos 281600 ∷ pos 285156 ∷ pos 28640000 ∷
     pos 5000 ∷ negsuc 4999 ∷ pos 0 ∷
     pos 11089 ∷ pos 11090 ∷
     negsuc 11089 ∷ negsuc 11088 ∷ []
 
-pub cases : computed ≡ given
+pub cases : computed ≡ expected
 unfolding _/F_ scaledSine sineEntry sineOf cosineOf stressOf crossOf forceOf
 cases = refl

@@ -14,13 +14,13 @@ use Rattle.ranges.proofs.Fits.{sized-mul, sized-add, sized-literal}
 use Rattle.ranges.proofs.FractionLaws.{floor-below, floor-near, ceil-above, ceil-near, whole-within, within-ordered}
 use Rattle.ranges.proofs.IntegerOrder.{le-trans}
 use Rattle.ranges.proofs.LinearSolver.{zomega, says}
-use Rattle.forcing.specs.Force.{ForceBounds, forceTop, forceBottom, forceFraction, forceOf}
+use Rattle.forcing.specs.Force.{stepSeconds, ForceBounds, forceTop, forceBottom, forceFraction, forceOf}
 use Rattle.forcing.proofs.StressLaws.{sized-wider}
 
 -- ---- the numbers on the way
 
 module _ (s o n : ℤ) (h : ForceBounds s o n) where
-  seconds-sized : Sized (pos 3600) s
+  seconds-sized : Sized stepSeconds s
   seconds-sized = let l = h .seconds-low in record { low = zomega (s ∷ []) l (search says depth 20) (omega arith); high = h .seconds-high }
 
   pub four-sized : Sized (pos 5145600000000) (o +ℤ n)

@@ -203,9 +203,9 @@ at-place : (a : ℤ) (p : Place) → placeOf a ≡ p → sineOf a ≡ signed-at 
 unfolding sineOf signed-at
 at-place a p e = ap (λ (q : Place). signed (q .negative) (sineEntry (q .at))) e
 
-sine-half-nought : sineOf (pos 1800) ≡ negℤ (sineOf (pos 0))
+sine-half-zero : sineOf (pos 1800) ≡ negℤ (sineOf (pos 0))
 unfolding sineOf sineEntry scaledSine _/F_
-sine-half-nought = refl
+sine-half-zero = refl
 
 module _ (a : ℤ) (h : Angle a) (k : a <ℤ pos 1800) where
   turned : Angle (a +ℤ pos 1800)
@@ -223,7 +223,7 @@ module _ (a : ℤ) (h : Angle a) (k : a <ℤ pos 1800) where
       go (inl z) y =
           let low = h .low in
           let e : pos 0 ≡ a = zomega (a ∷ []) (z & low) (search says depth 20) (omega arith) in
-          subst (λ (x : ℤ). sineOf (x +ℤ pos 1800) ≡ negℤ (sineOf x)) e sine-half-nought
+          subst (λ (x : ℤ). sineOf (x +ℤ pos 1800) ≡ negℤ (sineOf x)) e sine-half-zero
       go (inr l) (inl m) =
           let q = third (a +ℤ pos 1800) turned
           (zomega (a ∷ []) l (search says depth 20) (omega arith))

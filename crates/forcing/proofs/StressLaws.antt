@@ -37,17 +37,17 @@ module _ (w : ℤ) (h : Wind w) where
   base-sized = sized-mul (sized-literal 11) square-sized
 
   module _ (t : pos 160 <ℤ w) where
-    pub over-sized : Sized (pos 1840) (w -ℤ pos 160)
-    over-sized = let k = h .high in record {
+    pub excess-sized : Sized (pos 1840) (w -ℤ pos 160)
+    excess-sized = let k = h .high in record {
       low = zomega (w ∷ []) t (search says depth 20) (omega arith);
       high = zomega (w ∷ []) k (search says depth 20) (omega arith);
     }
 
-    pub over-square-sized : Sized (pos 3385600) ((w -ℤ pos 160) *ℤ (w -ℤ pos 160))
-    over-square-sized = sized-mul over-sized over-sized
+    pub excess-square-sized : Sized (pos 3385600) ((w -ℤ pos 160) *ℤ (w -ℤ pos 160))
+    excess-square-sized = sized-mul excess-sized excess-sized
 
     pub added-sized : Sized (pos 84640000) (pos 25 *ℤ ((w -ℤ pos 160) *ℤ (w -ℤ pos 160)))
-    added-sized = sized-mul (sized-literal 25) over-square-sized
+    added-sized = sized-mul (sized-literal 25) excess-square-sized
 
     pub sum-sized : Sized (pos 128640000) (pos 11 *ℤ (w *ℤ w) +ℤ pos 25 *ℤ ((w -ℤ pos 160) *ℤ (w -ℤ pos 160)))
     sum-sized = sized-add base-sized added-sized

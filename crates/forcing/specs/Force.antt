@@ -8,10 +8,14 @@ use Rattle.ranges.specs.Bounds.{Sized}
 use Rattle.ranges.specs.Division.{floorDiv, ceilDiv}
 use Rattle.ranges.specs.Fraction.{Frac, whole}
 
+-- the longest seconds of a step of the march, document 01's longest Δt
+abbrev pub stepSeconds : ℤ
+stepSeconds = pos 3600
+
 -- the limits of Δt and of the two sums
 pub record ForceBounds (seconds old new : ℤ) : Type 0 where
   pub seconds-low : pos 0 ≤ℤ seconds
-  pub seconds-high : seconds ≤ℤ pos 3600
+  pub seconds-high : seconds ≤ℤ stepSeconds
   pub old-in : Sized (pos 2572800000000) old
   pub new-in : Sized (pos 2572800000000) new
 

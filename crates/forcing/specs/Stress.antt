@@ -2,6 +2,7 @@
 use mathlib.Core.Bool.{cond}
 use lib.IntN.{ℤ, pos, _+ℤ_, _-ℤ_, _*ℤ_}
 use lib.Signed.{leZ, _≤ℤ_}
+use Rattle.forcing.specs.declared.stresses.PointStress.{PointStress}
 use Rattle.forcing.specs.Quadrant.{sineOf, cosineOf}
 
 -- the limits of a wind
@@ -23,3 +24,7 @@ crossOf w a = stressOf w *ℤ sineOf a
 -- the onshore stress at a point: q·cosine of the angle
 unfoldable pub onshoreOf : ℤ → ℤ → ℤ
 onshoreOf w a = stressOf w *ℤ cosineOf a
+
+-- both
+abbrev pub pointStress : ℤ → ℤ → PointStress
+pointStress w a = record { cross = crossOf w a; onshore = onshoreOf w a }

@@ -4,7 +4,13 @@ use super::sines::sine;
 ghost use mathlib.Core.Path.{_≡_};
 ghost use Rattle.forcing.specs.Sine.{TableRight};
 ghost use Rattle.forcing.specs.Quadrant.{Angle};
-ghost use Rattle.forcing.specs.Stress.{Wind, stressOf, crossOf, onshoreOf};
+ghost use Rattle.forcing.specs.Stress.{Wind, stressOf, pointStress};
+
+// The stress at a point, across the traverse and along it, toward the shore.
+pub struct PointStress {
+    pub cross: i64,
+    pub onshore: i64,
+}
 
 // The stress q of a wind. The second term is there above 16.0 miles per hour.
 pub fn stress(w: i64) -> i64
@@ -15,22 +21,20 @@ pub fn stress(w: i64) -> i64
     if w <= 160 {
         return base;
     }
-    let over = w - 160;
-    base + 25 * (over * over)
+    let excess = w - 160;
+    base + 25 * (excess * excess)
 }
 
-// The stress across the traverse.
-pub fn cross(table: &[u16; 901], w: i64, angle: i64) -> i64
-    requires { ⌜ (TableRight (now table)) × (Wind w × Angle angle) ⌝ }
-    ensures { λ r. ⌜ r ≡ crossOf w angle ⌝ }
+// The stress of a wind at a point: q is worked out once, for both parts.
+pub fn point_stress(table: &[u16; 901], wind: i64, angle: i64) -> PointStress
+    requires { ⌜ (TableRight (now table)) × (Wind wind × Angle angle) ⌝ }
+    ensures { λ r. ⌜ r ≡ pointStress wind angle ⌝ }
 {
-    stress(w) * sine(table, angle)
-}
-
-// The stress along the traverse, toward the shore.
-pub fn onshore(table: &[u16; 901], w: i64, angle: i64) -> i64
-    requires { ⌜ (TableRight (now table)) × (Wind w × Angle angle) ⌝ }
-    ensures { λ r. ⌜ r ≡ onshoreOf w angle ⌝ }
-{
-    stress(w) * cosine(table, angle)
+    let q = stress(wind);
+    let cross = q * sine(table, angle);
+    let onshore = q * cosine(table, angle);
+    PointStress {
+        cross: cross,
+        onshore: onshore,
+    }
 }

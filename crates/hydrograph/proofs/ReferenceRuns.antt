@@ -2,11 +2,10 @@
 -- edges, and the listing from its two texts. One list of runs, each what a definition gives beside what the paper says; `reference-runs` says that
 -- the two columns are the same. Assumes nothing.
 use mathlib.Core.Path.{_≡_, refl}
-use mathlib.Core.Bool.{Bool, true, false}
+use mathlib.Core.Bool.{true, false}
 use mathlib.Core.List.{List, [], _∷_, _++_, map}
 use Prim.Native.Nat.{ℕ}
 use lib.IntN.{ℤ, pos, negsuc, _+ℤ_}
-use lib.ListN.{replicate}
 use Rattle.ranges.specs.declared.Range.{Range}
 use Rattle.ranges.specs.Fraction.{_/F_}
 use Rattle.ranges.specs.Range.{lesser, greater, nearest}
@@ -16,30 +15,26 @@ use Rattle.forcing.specs.Sine.{scaledSine, sineEntry}
 use Rattle.forcing.specs.Quadrant.{sineOf, cosineOf}
 use Rattle.forcing.specs.Stress.{stressOf, crossOf, onshoreOf}
 use Rattle.forcing.specs.Force.{forceOf}
-use Rattle.records.specs.declared.Record.{Record}
-use Rattle.march.specs.declared.Row.{Row}
-use Rattle.march.specs.declared.Site.{Site}
-use Rattle.march.specs.declared.Load.{Load}
-use Rattle.march.specs.declared.State.{State}
-use Rattle.march.specs.declared.Step.{Step}
-use Rattle.march.specs.declared.Step.the-variants.{On, Stop}
+use Rattle.records.specs.Groups.{wholes, stationAt, putStation, pointAt, rowAt, groups, flat}
+use Rattle.records.specs.Limits.{inside, rangeInside, countOk, headOk, stationOk, secondsOk, pointOk, rowOk}
+use Rattle.records.specs.Refusals.{numberOf}
+use Rattle.records.specs.Rows.{freshRow}
+use Rattle.records.specs.Shapes.{storm}
+use Rattle.segment.specs.declared.SegmentAnswer.{SegmentAnswer}
+use Rattle.segment.specs.declared.SegmentAnswer.the-variants.{On, Stop}
+use Rattle.segment.specs.Segment.{depthOf, fluxOf, gainOf, nextSetup, segmentOf, shoreBase}
 use Rattle.march.specs.declared.Check.{Check}
 use Rattle.march.specs.declared.Check.the-variants.{Pass, Fail}
-use Rattle.march.specs.Limits.{inside, rangeInside}
-use Rattle.march.specs.Refusals.{numberOf}
-use Rattle.march.specs.Rows.{freshRow, chosenRow}
-use Rattle.march.specs.Segment.{depthOf, fluxOf, gainOf, nextSetup, segmentOf}
-use Rattle.march.specs.Checks.{firstBad, countOk, headOk, stationOk, spacingOk, traverseCheck, openOf, placesOk, rowOk, lentCheck, timesOk, pointOk, recordCheck, checkOf}
-use Rattle.march.specs.March.{crossSum, onshoreSum, marchBy, stepAt}
-use Rattle.march.specs.Take.{heightOf, setupPlaces, takeOf}
-use Rattle.listing.specs.Decimal.{digitsOf, decimalOf}
-use Rattle.listing.specs.Decimal as decimal
+use Rattle.march.specs.Checks.{firstBad, spacingOk, traverseCheck, openOf, placesOk, lentCheck, timesOk, recordCheck, checksOf}
+use Rattle.march.specs.March.{marchBy, segmentAt}
+use Rattle.march.specs.Take.{takeOf}
+use Rattle.listing.specs.Decimal.{digitsOf, decimalOf, signedText}
 use Rattle.listing.specs.Lines.{recordLine, refusedLine}
-use Rattle.reader.specs.Text.{more, digitAt, digits, worth, goodOf, signedOf, startAt, goodAt, valueAt, pastAt, closeOf}
-use Rattle.reader.specs.Lines.{valuesAt, sameAt, linesAt, spells, namesAt}
-use Rattle.reader.specs.Storm.{stormStart, noRows, pointsOf, recordOf, counts, nextAt, stormLeft, stormRest, stormOf}
-use Rattle.reader.specs.Traverse.{noTraverse, start, withValues, keptAt, withPoint, lineAt, endAt, leftAt, restAt, traverseOf}
-use Rattle.hydrograph.specs.Listing.{recordLines, listingOf}
+use Rattle.reader.specs.Text.{more, digitAt, digits, worth, goodOf, signedValue, startAt, goodAt, valueAt, pastAt, closeOf}
+use Rattle.reader.specs.Lines.{repeated, keptWith, sameWith, valuesAt, linesAt, spells, namesAt}
+use Rattle.reader.specs.Storm.{stormStart, recordOf, nextAt, recordsBy, stormRest, stormOf}
+use Rattle.reader.specs.Traverse.{start, withValues, storedAt, withPoint, lineAt, countedBy, endAt, restBy, restAt, traverseOf}
+use Rattle.hydrograph.specs.Listing.{hydrographLines, listingOf}
 
 -- ---- the table
 
@@ -50,11 +45,11 @@ pub data Value : Type 0 where
   refusal : ℕ → Value
   bytes : List ℕ → Value
 
-pub record Run : Type 0 where
+pub record ReferenceRun : Type 0 where
   pub given : Value
   pub paper : Value
 
-abbrev gives : Value → Value → Run
+abbrev gives : Value → Value → ReferenceRun
 gives given paper = record { given = given; paper = paper }
 
 abbrev ranged : Range → Value
@@ -79,21 +74,21 @@ gain v onshore =
     ranged (gainOf (record { length = pos 10; depths = pos 1000; sine = pos 5000; friction = pos 25 }) (record { seconds = pos 0; level = pos 0; deficits = pos 0; cross = pos 0; onshore = onshore }) (one v) (one (pos 5000)))
 
 -- the refusal of a still first record at the water depth 5·(sum of the depths) + level
-abbrev stepNumber : Step → Value
-stepNumber (On leg) = refusal 0
-stepNumber (Stop r) = refusal (numberOf r)
+abbrev segmentNumber : SegmentAnswer → Value
+segmentNumber (On leg) = refusal 0
+segmentNumber (Stop r) = refusal (numberOf (r .kind))
 
 abbrev still : ℤ → ℤ → Value
 still depths level =
-    stepNumber (segmentOf 1 true (record { length = pos 10; depths = depths; sine = pos 5000; friction = pos 25 }) (record { seconds = pos 0; level = level; deficits = pos 0; cross = pos 0; onshore = pos 0 }) freshRow (one (pos 0)))
+    segmentNumber (segmentOf 1 true (record { length = pos 10; depths = depths; sine = pos 5000; friction = pos 25 }) (record { seconds = pos 0; level = level; deficits = pos 0; cross = pos 0; onshore = pos 0 }) freshRow (one (pos 0)))
 
 -- check 9 of a later record of so many seconds
 abbrev checkNumber : Check → Value
 checkNumber Pass = refusal 0
-checkNumber (Fail r) = refusal (numberOf r)
+checkNumber (Fail r) = refusal (numberOf (r .kind))
 
 abbrev lasting : ℤ → Value
-lasting seconds = checkNumber (recordCheck 0 (record { seconds = seconds; tide = pos 0; count = 0; points = [] }) (record { elapsed = pos 0; started = true }))
+lasting seconds = checkNumber (recordCheck 0 (storm (record { seconds = seconds; tide = pos 0 }) []) (record { elapsed = pos 0; started = true }))
 
 -- ---- the two texts of the listing, and the listing
 
@@ -134,7 +129,7 @@ listingText =
 
 -- ---- the runs
 
-abbrev pub referenceRuns : List Run
+abbrev pub referenceRuns : List ReferenceRun
 referenceRuns =
     -- "q: 160 gives 281,600; 161 gives 285,156; 1,000 gives 28,640,000"
     gives (number (stressOf (pos 160))) (number (pos 281600))
@@ -168,6 +163,6 @@ referenceRuns =
     ∷ gives (bytes (listingOf traverseText stormText)) (bytes listingText)
     ∷ []
 
-pub reference-runs : map (λ (r : Run). r .given) referenceRuns ≡ map (λ (r : Run). r .paper) referenceRuns
-unfolding _/F_ lesser greater nearest quotientLow quotientHigh dampedLeast dampedMost dampedLow dampedHigh dampedFloor dampedCeil scaledSine sineEntry sineOf cosineOf stressOf crossOf onshoreOf forceOf inside rangeInside chosenRow depthOf fluxOf gainOf nextSetup segmentOf firstBad countOk headOk stationOk spacingOk traverseCheck openOf placesOk rowOk lentCheck timesOk pointOk recordCheck checkOf crossSum onshoreSum marchBy stepAt heightOf setupPlaces takeOf digitsOf decimalOf decimal.signedOf recordLine refusedLine more digitAt digits worth goodOf signedOf startAt goodAt valueAt pastAt closeOf valuesAt sameAt linesAt spells namesAt stormStart noRows pointsOf recordOf counts nextAt stormLeft stormRest stormOf noTraverse start withValues keptAt withPoint lineAt endAt leftAt restAt traverseOf recordLines listingOf
+pub reference-runs : map (λ (r : ReferenceRun). r .given) referenceRuns ≡ map (λ (r : ReferenceRun). r .paper) referenceRuns
+unfolding _/F_ lesser greater nearest quotientLow quotientHigh dampedLeast dampedMost dampedLow dampedHigh dampedFloor dampedCeil scaledSine sineEntry sineOf cosineOf stressOf crossOf onshoreOf forceOf wholes stationAt putStation pointAt rowAt groups flat inside rangeInside countOk headOk stationOk secondsOk pointOk rowOk depthOf fluxOf gainOf nextSetup segmentOf shoreBase firstBad spacingOk traverseCheck openOf placesOk lentCheck timesOk recordCheck checksOf marchBy segmentAt takeOf digitsOf decimalOf signedText recordLine refusedLine more digitAt digits worth goodOf signedValue startAt goodAt valueAt pastAt closeOf repeated keptWith sameWith valuesAt linesAt spells namesAt stormStart recordOf nextAt recordsBy stormRest stormOf start withValues storedAt withPoint lineAt countedBy endAt restBy restAt traverseOf hydrographLines listingOf
 reference-runs = refl

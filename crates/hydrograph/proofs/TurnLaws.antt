@@ -1,140 +1,215 @@
 -- What the functions of a turn gave is what the definition says. Each law takes the equations that the calls promise. Assumes nothing.
-use mathlib.Core.Path.{_≡_, refl, sym, ap, ap₂, subst, _∙_}
-use mathlib.Core.Bool.{Bool, true, false, cond}
-use mathlib.Core.List.{List, [], _∷_}
-use Prim.Native.Nat.{ℕ, _-_}
-use lib.Dec.{eqb}
-use lib.ListN.{take, replicate}
+use mathlib.Core.Path.{_≡_, sym, ap, subst, _∙_}
+use mathlib.Core.Bool.{Bool, true, false, not}
+use mathlib.Core.List.{List, []}
+use native.Mathlib.Omega.{arith}
+use Prim.Native.Nat.{ℕ, _+_, _-_, _*_, _≤_}
+use lib.Dec.{leb}
+use lib.ListN.{length, take, drop}
 use lib.IntN.{ℤ}
-use Rattle.records.specs.declared.Traverse.{Traverse}
-use Rattle.records.specs.declared.Record.{Record}
+use borrow.Author.Tests.{eq-eqb, ne-eqb, not-true, not-false, leb-true}
+use Rattle.records.specs.declared.Refusal.{Refusal}
+use Rattle.records.specs.Groups.{at}
+use Rattle.records.specs.Limits.{mostPoints}
+use Rattle.records.specs.Shapes.{Traverse, Record, storm, count}
 use Rattle.listing.specs.declared.Put.{Put}
 use Rattle.listing.specs.declared.Put.the-variants.{Next, Full}
-use Rattle.listing.specs.Put.{Given, given, putOf}
-use Rattle.listing.specs.Lines.{namesLine, recordLine, refusedLine}
-use borrow.Author.Tests.{eq-eqb, ne-eqb}
-use Rattle.reader.specs.declared.Cursor.{Cursor}
+use Rattle.listing.specs.Put.{AfterPut, afterPut, putOf, written}
+use Rattle.listing.specs.Lines.{namesLine, recordLine}
+use Rattle.listing.proofs.Answer.{put-fits}
+use Rattle.reader.specs.declared.Lines.the-variants.{Read, Refused}
 use Rattle.reader.specs.declared.storm.StartStep.{StartStep}
-use Rattle.reader.specs.declared.storm.Step.{Step}
+use Rattle.reader.specs.declared.storm.StartStep.the-variants as start-step
 use Rattle.reader.specs.declared.storm.RecordStep.{RecordStep}
-use Rattle.reader.specs.Storm.{startStep, recordStep}
-use Rattle.march.specs.declared.Row.{Row}
+use Rattle.reader.specs.Lines.{Leaves, leaves}
+use Rattle.reader.specs.Storm.{recordSize, recordIn, startStep, recordStepLeft}
 use Rattle.march.specs.declared.State.{State}
-use Rattle.march.specs.declared.Refusal.{Refusal}
-use Rattle.march.specs.declared.Answer.{Answer}
-use Rattle.march.specs.declared.Answer.the-variants.{Accepted, Refused}
+use Rattle.march.specs.declared.Answer.the-variants as answer
 use Rattle.march.specs.declared.Taken.{Taken}
-use Rattle.march.specs.Refusals.{numberOf, placeOf}
 use Rattle.march.specs.declared.Check.the-variants.{Pass, Fail}
 use Rattle.march.specs.declared.Opened.{Opened}
-use Rattle.march.specs.Rows.{freshRow}
+use Rattle.march.specs.Answers.{toldOf, ToldOpen, opened, toldOpen}
 use Rattle.march.specs.Checks.{freshState, LeftOpen, openOf, openedBy}
-use Rattle.march.specs.Answers.{toldOf, ToldOpen, opened, notOpened, toldOpen}
-use Rattle.march.specs.Take.{Left, leftBy, takeOf}
-use Rattle.march.proofs.TakeRows.{take-first}
+use Rattle.march.specs.Take.{Left, left}
+use Rattle.march.proofs.TakeLaws.{refused-rows}
 use Rattle.hydrograph.specs.declared.Turn.{Turn}
 use Rattle.hydrograph.specs.declared.Turn.the-variants as turn
 use Rattle.hydrograph.specs.declared.Run.{Run}
 use Rattle.hydrograph.specs.declared.Turned.{Turned}
-use Rattle.hydrograph.specs.Listing.{takenBy}
-use Rattle.hydrograph.specs.Turns.{Said, says, ends, saidTaken, takenSaid, saidStep, saidStart, startTurn, recordTurn, turnOf, freshRun, saidOpen, beginOf, saysLater, LeftTurn, saysPut, endsPut, printedFrom, leftTurn}
+use Rattle.hydrograph.specs.Listing.{refusalLine, takenBy}
+use Rattle.hydrograph.specs.Turns.{Said, says, ends, saidTaken, takenSaid, saidStep, saidStart, startTurn, recordTurn, turnOf, Heard, heardStep, recordHeard, turnHeard, lineRoom, LeftTurn, leftTurn, printed, turnLeft, freshRun, saidOpen, beginOf}
 
--- ---- bytes that were put, or did not fit
+-- ---- a line for which there is room was put
 
-module _ (n : ℕ) (bytes : List ℕ) (used : ℕ) (run : Run) (out out′ : List ℕ) (p : Put) (e : given p out′ ≡ putOf bytes used out) where
-  ends-put : (q : Put) → p ≡ q → endsPut q (run .cursor .at) (run .cursor .line) (run .state) (take n (run .rows)) out′ ≡ printedFrom n (ends bytes) used run out
-  ends-put q f =
-      subst (λ (g : Given). endsPut q (run .cursor .at) (run .cursor .line) (run .state) (take n (run .rows)) out′ ≡ endsPut (g .answer) (run .cursor .at) (run .cursor .line) (run .state) (take n (run .rows)) (g .out)) e
-      (subst (λ (z : Put). endsPut z (run .cursor .at) (run .cursor .line) (run .state) (take n (run .rows)) out′ ≡ endsPut p (run .cursor .at) (run .cursor .line) (run .state) (take n (run .rows)) out′) f refl)
+abbrev turned : Turn → Run → Turned
+turned t run = record { turn = t; run = run }
 
-  pub ends-next : (k : ℕ) → p ≡ Next k → leftTurn n (record { turn = turn.End k; run = run }) out′ ≡ printedFrom n (ends bytes) used run out
-  ends-next k f = ends-put (Next k) f
+module _ (line : List ℕ) (used : ℕ) (out out′ : List ℕ) (p : Put) (long : length line ≤ lineRoom) (room : used + lineRoom ≤ length out) (e : afterPut p out′ ≡ putOf line used out) where
+  fitted : afterPut p out′ ≡ afterPut (Next (used + length line)) (written line used out)
+  fitted = e ∙ put-fits line used out (omega arith)
 
-  pub ends-full : p ≡ Full → leftTurn n (record { turn = turn.Full; run = run }) out′ ≡ printedFrom n (ends bytes) used run out
-  ends-full f = ends-put Full f
+  place : (k : ℕ) → p ≡ Next k → k ≡ used + length line
+  place k f = cc (ap (λ (x : AfterPut). x .answer) fitted)
 
-  module _ (later : Run) where
-    abbrev Says : Put → List ℕ → LeftTurn
-    Says z o = saysPut z (later .cursor .at) (later .cursor .line) (later .state) (take n (later .rows)) (run .cursor .at) (run .cursor .line) (run .state) (take n (run .rows)) o
+  stored : out′ ≡ written line used out
+  stored = ap (λ (x : AfterPut). x .out) fitted
 
-    says-put : (q : Put) → p ≡ q → Says q out′ ≡ printedFrom n (saysLater n bytes later) used run out
-    says-put q f = subst (λ (g : Given). Says q out′ ≡ Says (g .answer) (g .out)) e (subst (λ (z : Put). Says z out′ ≡ Says p out′) f refl)
+  pub put-line : (run : Run) (k : ℕ) → p ≡ Next k → (turned (turn.Line k) run ≡ turned (turn.Line (used + length line)) run) × (out′ ≡ written line used out)
+  put-line run k f = (ap (λ (n : ℕ). turned (turn.Line n) run) (place k f), stored)
 
-    pub says-next : (k : ℕ) → p ≡ Next k → leftTurn n (record { turn = turn.Line k; run = later }) out′ ≡ printedFrom n (saysLater n bytes later) used run out
-    says-next k f = says-put (Next k) f
+  pub put-last : (run : Run) (k : ℕ) → p ≡ Next k → (turned (turn.End k) run ≡ turned (turn.End (used + length line)) run) × (out′ ≡ written line used out)
+  put-last run k f = (ap (λ (n : ℕ). turned (turn.End n) run) (place k f), stored)
 
-    pub says-full : p ≡ Full → leftTurn n (record { turn = turn.Full; run = run }) out′ ≡ printedFrom n (saysLater n bytes later) used run out
-    says-full f = says-put Full f
+  pub never-full : p ≡ Full → ⊥
+  never-full f = let z : _≡_ {A = ℕ} 0 1 = cc (ap (λ (x : AfterPut). x .answer) fitted) in omega arith
 
--- ---- a promise of a call, for the said and the count of rows that it was made of
+-- ---- what is said, printed
 
-pub carry : (n m : ℕ) (said said′ : Said) (used : ℕ) (run : Run) (x : Turned) (out out′ : List ℕ) → n ≡ m → said′ ≡ said →
-    leftTurn n x out′ ≡ printedFrom n said used run out → leftTurn m x out′ ≡ printedFrom m said′ used run out
-carry n m said said′ used run x out out′ e f h = subst (λ (k : ℕ). leftTurn k x out′ ≡ printedFrom k said′ used run out) e (subst (λ (z : Said). leftTurn n x out′ ≡ printedFrom n z used run out) (sym f) h)
+module _ (x : Turned) (run : Run) (numbers rows : List ℤ) (out out′ : List ℕ) (used : ℕ) where
+  pub printed-last : (bytes : List ℕ) → x ≡ turned (turn.End (used + length bytes)) run → out′ ≡ written bytes used out →
+      leftTurn x numbers rows out′ ≡ printed (ends bytes) run numbers rows out used
+  printed-last bytes e f = rw (e, f)
 
--- what a turn said, where the step's answer is known
+  pub printed-line : (bytes : List ℕ) (later : Run) (rows′ : List ℤ) → x ≡ turned (turn.Line (used + length bytes)) later → out′ ≡ written bytes used out →
+      leftTurn x numbers rows′ out′ ≡ printed (says bytes (later .cursor .at) (later .cursor .line) (later .state) rows′) run numbers rows out used
+  printed-line bytes later rows′ e f = rw (e, f)
+
+-- a promise of a call, for the said that it was made of
+pub carry : (said said′ : Said) (run : Run) (x : LeftTurn) (numbers rows : List ℤ) (out : List ℕ) (used : ℕ) → said′ ≡ said →
+    x ≡ printed said run numbers rows out used → x ≡ printed said′ run numbers rows out used
+carry said said′ run x numbers rows out used e h = subst (λ (z : Said). x ≡ printed z run numbers rows out used) (sym e) h
+
+-- ---- the names line of the storm
+
 pub said-start : (w : List ℕ) (last : Bool) (p q : StartStep) → p ≡ startStep w last → p ≡ q → startTurn w last ≡ saidStart q
 said-start w last p q e f = ap saidStart (sym e ∙ f)
 
-pub said-step : (t : Traverse) (w : List ℕ) (last : Bool) (at line : ℕ) (st : State) (rows : List Row) (x : RecordStep) (q : Step) → x ≡ recordStep w last (t .count) at line → x .answer ≡ q →
-    recordTurn t w last at line st rows ≡ saidStep q (x .got) t st rows
-said-step t w last at line st rows x q e f = ap (λ (y : RecordStep). saidStep (y .answer) (y .got) t st rows) (sym e) ∙ ap (λ (a : Step). saidStep a (x .got) t st rows) f
+-- it leaves the lent numbers and the rows as they are
+pub start-with : (w : List ℕ) (last : Bool) (x : Turned) (run : Run) (numbers rows : List ℤ) (out out′ : List ℕ) (used : ℕ) →
+    leftTurn x [] [] out′ ≡ printed (startTurn w last) run [] [] out used → leftTurn x numbers rows out′ ≡ printed (startTurn w last) run numbers rows out used
+start-with w last x run numbers rows out out′ used = go (startStep w last)
+  where
+    lent : LeftTurn → LeftTurn
+    lent l = record { turn = l .turn; run = l .run; numbers = numbers; rows = rows; out = l .out }
 
--- which of the two a turn is
-pub turn-start : (t : Traverse) (w : List ℕ) (last : Bool) (at line : ℕ) (st : State) (rows : List Row) → line ≡ 0 → turnOf t w last at line st rows ≡ startTurn w last
-unfolding turnOf
-turn-start t w last at line st rows e = rw (eq-eqb line 0 e)
+    go : (q : StartStep) → leftTurn x [] [] out′ ≡ printed (saidStart q) run [] [] out used → leftTurn x numbers rows out′ ≡ printed (saidStart q) run numbers rows out used
+    go start-step.More e = ap lent e
+    go (start-step.Answer (Read c)) e = ap lent e
+    go (start-step.Answer (Refused r)) e = ap lent e
 
-pub turn-record : (t : Traverse) (w : List ℕ) (last : Bool) (at line : ℕ) (st : State) (rows : List Row) → (line ≡ 0 → ⊥) → turnOf t w last at line st rows ≡ recordTurn t w last at line st rows
-unfolding turnOf
-turn-record t w last at line st rows e = rw (ne-eqb line 0 e)
+-- ---- the next record of the storm
 
--- ---- a record that was taken
+module _ (t : Traverse) (w : List ℕ) (last : Bool) (a l : ℕ) (st : State) (rows numbers numbers′ : List ℤ) (n : ℕ) (p : RecordStep) (c : n ≡ count t)
+    (e : leaves p numbers′ ≡ recordStepLeft w last n a l numbers) where
+  heard-is : (q : RecordStep) → p ≡ q → recordHeard t w last a l st rows numbers ≡ heardStep (leaves q numbers′) t st rows
+  heard-is q f =
+      ap (λ (k : ℕ). heardStep (recordStepLeft w last k a l numbers) t st rows) (sym c)
+      ∙ ap (λ (x : Leaves RecordStep). heardStep x t st rows) (sym e)
+      ∙ ap (λ (x : RecordStep). heardStep (leaves x numbers′) t st rows) f
 
-module _ (t : Traverse) (r : Record) (c : Cursor) (st : State) (rows : List Row) (n : ℕ) (x : Taken) (places : List ℤ) (e : n ≡ t .count - 1) (h : leftBy n x places ≡ takeOf t r st rows n []) where
-  -- the first n of the rows are what it looked at
-  taken-is : takenBy t r st (take (t .count - 1) rows) ≡ leftBy n x places
-  taken-is = subst (λ (k : ℕ). takeOf t r st (take k rows) k [] ≡ leftBy n x places) e (sym (h ∙ take-first t r st rows n []))
+  pub heard-printed : (q : RecordStep) → p ≡ q → (x : LeftTurn) (run : Run) (out : List ℕ) (used : ℕ) → x ≡ printed (saidStep q numbers′ t st rows) run numbers′ rows out used →
+      x ≡ printed (recordHeard t w last a l st rows numbers .said) run (recordHeard t w last a l st rows numbers .numbers) rows out used
+  heard-printed q f x run out used h = subst (λ (y : Heard). x ≡ printed (y .said) run (y .numbers) rows out used) (sym (heard-is q f)) h
 
-  said-is : takenSaid t r c st (take (t .count - 1) rows) ≡ saidTaken (toldOf (x .answer)) (c .at) (c .line) (x .state) (take n (x .rows))
-  said-is = ap (λ (l : Left). saidTaken (l .answer) (c .at) (c .line) (l .state) (l .rows)) taken-is
+-- ---- a record that was read
 
-  pub said-refused : (refusal : Refusal) (number place : ℕ) → x .answer ≡ Refused refusal → number ≡ numberOf refusal → place ≡ placeOf refusal →
-      takenSaid t r c st (take (t .count - 1) rows) ≡ ends (refusedLine number place)
-  said-refused refusal number place a f g = said-is ∙ rw (a, f, g)
+-- the record that the code takes is the one that the numbers are
+pub record-is : (n end : ℕ) (l : List ℤ) (seconds tide : ℤ) → end ≡ recordSize n → recordSize n ≤ length l → seconds ≡ at l 0 → tide ≡ at l 1 →
+    storm (record { seconds = seconds; tide = tide }) (take (end - 2) (drop 2 l)) ≡ recordIn n l
+record-is n end l seconds tide e h f g = let z : end - 2 ≡ 3 * n = omega arith in rw (f, g, z)
 
-  pub said-accepted : (elapsed low high : ℤ) → x .answer ≡ Accepted elapsed low high →
-      takenSaid t r c st (take (t .count - 1) rows) ≡ saysLater n (recordLine elapsed low high) (record { cursor = c; state = x .state; rows = x .rows })
-  said-accepted elapsed low high a = said-is ∙ rw a
+module _ (t : Traverse) (r r′ : Record) (a l : ℕ) (st : State) (rows rows′ places : List ℤ) (x : Taken) (e : r′ ≡ r) (h : left x rows′ places ≡ takenBy t r′ st rows) where
+  taken-is : takenBy t r st rows ≡ left x rows′ places
+  taken-is = subst (λ (y : Record). takenBy t y st rows ≡ left x rows′ places) e (sym h)
+
+  said-is : takenSaid t r a l st rows ≡ saidTaken (toldOf (x .answer)) a l (x .state) rows′
+  said-is = ap (λ (y : Left). saidTaken (y .answer) a l (y .state) (y .rows)) taken-is
+
+  -- where it is refused, the rows stay
+  rows-stay : (refusal : Refusal) → x .answer ≡ answer.Refused refusal → rows′ ≡ rows
+  rows-stay refusal f =
+      ap (λ (y : Left). y .rows) h
+      ∙ refused-rows (record { most = mostPoints; traverse = t; storm = r′; state = st; rows = rows; setup = [] }) _ _ (ap (λ (y : Left). y .answer) (sym h) ∙ ap toldOf f)
+
+  module _ (y : Turned) (run : Run) (numbers : List ℤ) (out out′ : List ℕ) (used : ℕ) where
+    pub taken-refused : (refusal : Refusal) → x .answer ≡ answer.Refused refusal → y ≡ turned (turn.End (used + length (refusalLine refusal))) run →
+        out′ ≡ written (refusalLine refusal) used out → leftTurn y numbers rows′ out′ ≡ printed (takenSaid t r a l st rows) run numbers rows out used
+    taken-refused refusal f p q =
+        carry (ends (refusalLine refusal)) (takenSaid t r a l st rows) run (leftTurn y numbers rows′ out′) numbers rows out used (said-is ∙ rw f) (rw (rows-stay refusal f, p, q))
+
+    pub taken-accepted : (elapsed low high : ℤ) → x .answer ≡ answer.Accepted elapsed low high →
+        y ≡ turned (turn.Line (used + length (recordLine elapsed low high))) (record { cursor = record { at = a; line = l }; state = x .state }) →
+        out′ ≡ written (recordLine elapsed low high) used out → leftTurn y numbers rows′ out′ ≡ printed (takenSaid t r a l st rows) run numbers rows out used
+    taken-accepted elapsed low high f p q =
+        carry (says (recordLine elapsed low high) a l (x .state) rows′) (takenSaid t r a l st rows) run (leftTurn y numbers rows′ out′) numbers rows out used (said-is ∙ rw f) (rw (p, q))
+
+-- ---- which of the two a turn is
+
+module _ (t : Traverse) (w : List ℕ) (last : Bool) (a l : ℕ) (st : State) (rows : List ℤ) where
+  pub turn-start : l ≡ 0 → turnOf t w last a l st rows ≡ startTurn w last
+  unfolding turnOf
+  turn-start e = rw (eq-eqb l 0 e)
+
+  pub turn-record : (l ≡ 0 → ⊥) → turnOf t w last a l st rows ≡ recordTurn t w last a l st rows
+  unfolding turnOf
+  turn-record e = rw (ne-eqb l 0 e)
+
+  pub heard-start : (numbers : List ℤ) → l ≡ 0 → turnHeard t w last a l st rows numbers ≡ record { said = startTurn w last; numbers = numbers }
+  unfolding turnHeard
+  heard-start numbers e = rw (eq-eqb l 0 e)
+
+  pub heard-record : (numbers : List ℤ) → (l ≡ 0 → ⊥) → turnHeard t w last a l st rows numbers ≡ recordHeard t w last a l st rows numbers
+  unfolding turnHeard
+  heard-record numbers e = rw (ne-eqb l 0 e)
+
+-- ---- the test for room
+
+pub room-there : (used size : ℕ) (room : Bool) → room ≡ leb (used + lineRoom) size → not room ≡ false → used + lineRoom ≤ size
+room-there used size room test h = leb-true (used + lineRoom) size (sym test ∙ not-false room h)
+
+module _ (used : ℕ) (out : List ℕ) (room : Bool) (test : room ≡ leb (used + lineRoom) (length out)) where
+  module _ (heard : Heard) (run : Run) (numbers rows : List ℤ) where
+    pub turn-full : not room ≡ true → leftTurn (turned turn.Full run) numbers rows out ≡ turnLeft heard run numbers rows out used
+    unfolding turnLeft
+    turn-full h = let f : leb (used + lineRoom) (length out) ≡ false = sym test ∙ not-true room h in rw f
+
+    pub turn-printed : not room ≡ false → (heard′ : Heard) → heard ≡ heard′ → (x : LeftTurn) → x ≡ printed (heard′ .said) run (heard′ .numbers) rows out used → x ≡ turnLeft heard run numbers rows out used
+    unfolding turnLeft
+    turn-printed h heard′ e x g = let f : leb (used + lineRoom) (length out) ≡ true = sym test ∙ not-false room h in rw (f, e) g
 
 -- ---- opening
 
 -- a run at the text's start
-abbrev startRun : State → List Row → Run
-startRun st rows = record { cursor = record { at = 0; line = 0 }; state = st; rows = rows }
+abbrev startRun : State → Run
+startRun st = record { cursor = record { at = 0; line = 0 }; state = st }
 
-module _ (t : Traverse) (n : ℕ) (o : Opened) (rows : List Row) (used : ℕ) (x : Turned) (out out′ : List ℕ) (e : n ≡ t .count - 1) (h : openedBy o ≡ openOf t) (r : rows ≡ replicate 64 freshRow) where
-  state-is : o .state ≡ freshState
+module _ (t : Traverse) (o : Opened) (h : openedBy o ≡ openOf mostPoints t) where
+  pub fresh-is : startRun (o .state) ≡ freshRun
   unfolding openOf
-  state-is = ap (λ (l : LeftOpen). l .state) h
+  fresh-is = ap (λ (l : LeftOpen). startRun (l .state)) h
 
-  begin-is : (told : ToldOpen) → toldOpen (o .check) ≡ told → beginOf t ≡ saidOpen told t freshState
+  begin-is : (told : ToldOpen) → toldOpen (o .check) ≡ told → beginOf t [] ≡ saidOpen told freshState []
   unfolding beginOf openOf
-  begin-is told f = ap (λ (a : ToldOpen). saidOpen a t freshState) (sym (ap (λ (l : LeftOpen). l .answer) h) ∙ f)
+  begin-is told f = ap (λ (a : ToldOpen). saidOpen a freshState []) (sym (ap (λ (l : LeftOpen). l .answer) h) ∙ f)
 
-  fresh-is : startRun (o .state) rows ≡ freshRun
-  fresh-is = ap (λ (s : State). startRun s rows) state-is ∙ ap (startRun freshState) r
+  abbrev Heard-begin : Heard
+  Heard-begin = record { said = beginOf t []; numbers = [] }
 
-  pub begin-opened : o .check ≡ Pass → leftTurn n x out′ ≡ printedFrom n (saysLater n namesLine (startRun (o .state) rows)) used (startRun (o .state) rows) out →
-      leftTurn (t .count - 1) x out′ ≡ printedFrom (t .count - 1) (beginOf t) used freshRun out
-  begin-opened f g =
-      carry (t .count - 1) (t .count - 1) (saysLater (t .count - 1) namesLine freshRun) (beginOf t) used freshRun x out out′ refl (begin-is opened (ap toldOpen f))
-      (subst (λ (k : ℕ). leftTurn k x out′ ≡ printedFrom k (saysLater k namesLine freshRun) used freshRun out) e
-      (subst (λ (z : Run). leftTurn n x out′ ≡ printedFrom n (saysLater n namesLine z) used z out) fresh-is g))
+  module _ (used : ℕ) (out : List ℕ) (room : Bool) (test : room ≡ leb (used + lineRoom) (length out)) where
+    pub begin-full : not room ≡ true → leftTurn (turned turn.Full (startRun (o .state))) [] [] out ≡ turnLeft (record { said = beginOf t []; numbers = [] }) freshRun [] [] out used
+    begin-full f = rw fresh-is (turn-full used out room test Heard-begin freshRun [] [] f)
 
-  pub begin-refused : (refusal : Refusal) (number place : ℕ) → o .check ≡ Fail refusal → number ≡ numberOf refusal → place ≡ placeOf refusal →
-      leftTurn n x out′ ≡ printedFrom n (ends (refusedLine number place)) used (startRun (o .state) rows) out →
-      leftTurn (t .count - 1) x out′ ≡ printedFrom (t .count - 1) (beginOf t) used freshRun out
-  begin-refused refusal number place f p q g =
-      carry n (t .count - 1) (ends (refusedLine number place)) (beginOf t) used freshRun x out out′ e (begin-is (notOpened (numberOf refusal) (placeOf refusal)) (ap toldOpen f) ∙ rw (p, q))
-      (subst (λ (z : Run). leftTurn n x out′ ≡ printedFrom n (ends (refusedLine number place)) used z out) fresh-is g)
+    module _ (f : not room ≡ false) (x : Turned) (out′ : List ℕ) where
+      pub begin-opened : o .check ≡ Pass → x ≡ turned (turn.Line (used + length namesLine)) (startRun (o .state)) → out′ ≡ written namesLine used out →
+          leftTurn x [] [] out′ ≡ turnLeft (record { said = beginOf t []; numbers = [] }) freshRun [] [] out used
+      begin-opened k e g =
+          turn-printed used out room test Heard-begin freshRun [] [] f (record { said = says namesLine 0 0 freshState []; numbers = [] })
+          (ap (λ (s : Said). record { said = s; numbers = [] }) (begin-is opened (ap toldOpen k))) (leftTurn x [] [] out′)
+          (printed-line x freshRun [] [] out out′ used namesLine freshRun [] (e ∙ ap (turned (turn.Line (used + length namesLine))) fresh-is) g)
+
+      pub begin-refused : (refusal : Refusal) → o .check ≡ Fail refusal → x ≡ turned (turn.End (used + length (refusalLine refusal))) (startRun (o .state)) →
+          out′ ≡ written (refusalLine refusal) used out → leftTurn x [] [] out′ ≡ turnLeft (record { said = beginOf t []; numbers = [] }) freshRun [] [] out used
+      begin-refused refusal k e g =
+          turn-printed used out room test Heard-begin freshRun [] [] f (record { said = ends (refusalLine refusal); numbers = [] })
+          (ap (λ (s : Said). record { said = s; numbers = [] }) (begin-is (toldOpen (Fail refusal)) (ap toldOpen k))) (leftTurn x [] [] out′)
+          (printed-last x freshRun [] [] out out′ used (refusalLine refusal) (e ∙ ap (turned (turn.End (used + length (refusalLine refusal)))) fresh-is) g)

@@ -1,33 +1,43 @@
 // The listing of a run, turn by turn: a window of `storm.txt` in, a line of the hydrograph out. Everything that decides what is printed
-// stands here and below; a program above only moves bytes.
+// stands here and below; a program above only moves bytes. The traverse's points, the record that is read and the rows are numbers that the
+// caller lends.
 use listing::Put;
 use march::Answer;
+use march::Call;
 use march::Check;
-use march::Row;
 use march::State;
 use reader::Cursor;
 use reader::Lines;
 use reader::Next;
+use reader::RecordStep;
 use reader::StartStep;
-use reader::Step;
-use records::Record;
-use records::Traverse;
+use records::Closing;
+use records::Head;
+use records::Point;
+use records::Refusal;
+use records::Station;
+use records::groups::whole_groups;
 ghost use mathlib.Core.Path.{_≡_};
-ghost use Prim.Native.Nat.{_-_};
-ghost use lib.ListN.{take, replicate};
-ghost use Rattle.listing.specs.Lines.{namesLine, recordLine, refusedLine};
-ghost use Rattle.march.specs.Rows.{freshRow};
-ghost use Rattle.hydrograph.specs.Turns.{ends, saysLater, takenSaid, startTurn, recordTurn, turnOf, freshRun, beginOf, printedFrom, leftTurn};
+ghost use mathlib.Core.List.{[]};
+ghost use Prim.Native.Nat.{_+_, _≤_};
+ghost use lib.ListN.{length};
+ghost use Rattle.records.specs.Shapes.{traverse, count};
+ghost use lib.Dec.{leb};
+ghost use Rattle.listing.specs.Lines.{namesLine, recordLine};
+ghost use Rattle.listing.specs.Put.{written};
+ghost use Rattle.hydrograph.specs.Listing.{refusalLine};
+ghost use Rattle.reader.specs.Storm.{recordSize, recordIn};
+ghost use Rattle.hydrograph.specs.declared.Turn.the-variants as turn;
+ghost use Rattle.hydrograph.specs.Turns.{takenSaid, startTurn, recordHeard, turnHeard, lineRoom, leftTurn, printed, turnLeft, freshRun, beginOf};
 
-// What is carried from turn to turn: the cursor in the window, the state and the rows.
+// What is carried from turn to turn beside the lent numbers: the cursor in the window, and the state.
 pub struct Run {
     pub cursor: Cursor,
     pub state: State,
-    pub rows: [Row; 64],
 }
 
 // What a turn did. More: nothing, it needs more of the text. Line: the names line was read, or a record's line put; the place behind it.
-// End: the last line was put, or there is none; the place behind it. Full: nothing, a line does not fit.
+// End: the last line was put, or there is none; the place behind it. Full: nothing, there is no room for a line.
 pub enum Turn {
     More,
     Line(usize),
@@ -40,25 +50,31 @@ pub struct Turned {
     pub run: Run,
 }
 
-// How many segments lie between so many points.
-fn segments(points: usize) -> usize
-    ensures { λ r. ⌜ r ≡ points - 1 ⌝ }
+// The most bytes of a line of the listing: three numbers of 21 with what closes them.
+const LINE: usize = 66;
+
+// Whether a buffer of this size has room for a line behind so many bytes.
+fn has_line_room(size: usize, used: usize) -> bool
+    ensures { λ r. ⌜ r ≡ leb (used + lineRoom) size ⌝ }
 {
-    if points == 0 {
-        return 0;
+    if size < LINE {
+        return false;
     }
-    points - 1
+    used <= size - LINE
 }
 
-// A refusal is the last line.
-fn refuse(n: usize, run: Run, out: &mut [u8], used: usize, number: u64, place: usize) -> Turned
-    ensures { λ x. ⌜ leftTurn n x (now (out .exit)) ≡ printedFrom n (ends (refusedLine number place)) used run (now (out .entry)) ⌝ }
+// The names line of the listing.
+fn names(run: Run, out: &mut [u8], used: usize) -> Turned
+    requires { ⌜ used + lineRoom ≤ length (now out) ⌝ }
+    ensures { λ x. ⌜ x ≡ record { turn = turn.Line (used + length namesLine); run = run } ⌝ }
+    ensures { λ _. ⌜ now (out .exit) ≡ written namesLine used (now (out .entry)) ⌝ }
 {
-    match listing::put_refused(out, used, number, place as u64) {
+    match listing::put_names(out, used) {
         Put::Next(k) => Turned {
-            turn: Turn::End(k),
+            turn: Turn::Line(k),
             run,
         },
+        // This does not come: there is room.
         Put::Full => Turned {
             turn: Turn::Full,
             run,
@@ -66,65 +82,88 @@ fn refuse(n: usize, run: Run, out: &mut [u8], used: usize, number: u64, place: u
     }
 }
 
-// A record's line, and on with the later run; or the run as it was, where the line does not fit.
-fn accept(
-    n: usize,
-    run: Run,
-    later: Run,
-    out: &mut [u8],
-    used: usize,
-    elapsed: i64,
-    low: i64,
-    high: i64,
-) -> Turned
-    ensures { λ x. ⌜ leftTurn n x (now (out .exit)) ≡ printedFrom n (saysLater n (recordLine elapsed low high) later) used run (now (out .entry)) ⌝ }
+// A refusal is the last line.
+fn refuse(run: Run, out: &mut [u8], used: usize, refusal: Refusal) -> Turned
+    requires { ⌜ used + lineRoom ≤ length (now out) ⌝ }
+    ensures { λ x. ⌜ x ≡ record { turn = turn.End (used + length (refusalLine refusal)); run = run } ⌝ }
+    ensures { λ _. ⌜ now (out .exit) ≡ written (refusalLine refusal) used (now (out .entry)) ⌝ }
+{
+    let place = refusal.place;
+    match listing::put_refused(out, used, refusal.number(), place as u64) {
+        Put::Next(k) => Turned {
+            turn: Turn::End(k),
+            run,
+        },
+        // This does not come: there is room.
+        Put::Full => Turned {
+            turn: Turn::Full,
+            run,
+        },
+    }
+}
+
+// A record's line, and on with the later run.
+fn accept(later: Run, out: &mut [u8], used: usize, elapsed: i64, low: i64, high: i64) -> Turned
+    requires { ⌜ used + lineRoom ≤ length (now out) ⌝ }
+    ensures { λ x. ⌜ x ≡ record { turn = turn.Line (used + length (recordLine elapsed low high)); run = later } ⌝ }
+    ensures { λ _. ⌜ now (out .exit) ≡ written (recordLine elapsed low high) used (now (out .entry)) ⌝ }
 {
     match listing::put_record(out, used, elapsed, low, high) {
         Put::Next(k) => Turned {
             turn: Turn::Line(k),
             run: later,
         },
+        // This does not come: there is room.
         Put::Full => Turned {
             turn: Turn::Full,
-            run,
+            run: later,
         },
     }
 }
 
-// A record that was read up to the cursor c: its line, or its refusal. The setup buffer has length 0: Level B.
-fn taken(t: Traverse, r: Record, run: Run, c: Cursor, out: &mut [u8], used: usize) -> Turned
-    ensures { λ x. ⌜ leftTurn (t .count - 1) x (now (out .exit)) ≡ printedFrom (t .count - 1) (takenSaid t r c (run .state) (take (t .count - 1) (run .rows))) used run (now (out .entry)) ⌝ }
+// The record that was read into the first of the numbers, up to the cursor c: its line, or its refusal. The setup buffer has length 0: Level B.
+fn taken(
+    head: Head,
+    points: &[i64],
+    numbers: &[i64],
+    run: Run,
+    c: Cursor,
+    rows: &mut [i64],
+    out: &mut [u8],
+    used: usize,
+) -> Turned
+    requires { ⌜ (used + lineRoom ≤ length (now out)) × (recordSize (count (traverse head (now points))) ≤ length (now numbers)) ⌝ }
+    ensures { λ x. ⌜ leftTurn x (now (numbers .entry)) (now (rows .exit)) (now (out .exit)) ≡ printed (takenSaid (traverse head (now (points .entry))) (recordIn (count (traverse head (now (points .entry)))) (now (numbers .entry))) (c .at) (c .line) (run .state) (now (rows .entry))) run (now (numbers .entry)) (now (rows .entry)) (now (out .entry)) used ⌝ }
 {
-    let n = segments(t.count);
-    let rows = run.rows;
+    let n = whole_groups(Station::NUMBERS, points.len());
+    let end = Closing::NUMBERS + Point::NUMBERS * n;
+    let closing = Closing {
+        seconds: numbers[0],
+        tide: numbers[1],
+    };
+    let state = run.state;
+    let call = Call {
+        head,
+        closing,
+        state,
+    };
     let mut places = [0i64; 1];
-    let x = march::take_record(t, r, run.state, rows, n, &mut places[..0]);
+    let x = march::take_record(call, points, &numbers[2..end], rows, &mut places[..0]);
     let answer = x.answer;
     let state = x.state;
-    let rows = x.rows;
-    let later = Run {
-        cursor: c,
-        state,
-        rows,
-    };
     match answer {
-        Answer::Refused(refusal) => refuse(n, run, out, used, refusal.number(), refusal.place()),
-        Answer::Accepted { elapsed, low, high } => accept(
-            n,
-            run,
-            later,
-            out,
-            used,
-            elapsed,
-            low,
-            high,
-        ),
+        Answer::Refused(refusal) => refuse(run, out, used, refusal),
+        Answer::Accepted { elapsed, low, high } => {
+            let later = Run { cursor: c, state };
+            accept(later, out, used, elapsed, low, high)
+        }
     }
 }
 
 // The names line of the storm, which prints nothing.
-fn start_turn(n: usize, run: Run, w: &[u8], last: bool, out: &mut [u8], used: usize) -> Turned
-    ensures { λ x. ⌜ leftTurn n x (now (out .exit)) ≡ printedFrom n (startTurn (now (w .entry)) last) used run (now (out .entry)) ⌝ }
+fn start_turn(run: Run, w: &[u8], last: bool, out: &mut [u8], used: usize) -> Turned
+    requires { ⌜ used + lineRoom ≤ length (now out) ⌝ }
+    ensures { λ x. ⌜ leftTurn x [] [] (now (out .exit)) ≡ printed (startTurn (now (w .entry)) last) run [] [] (now (out .entry)) used ⌝ }
 {
     match reader::storm_start_step(w, last) {
         StartStep::More => Turned {
@@ -134,113 +173,97 @@ fn start_turn(n: usize, run: Run, w: &[u8], last: bool, out: &mut [u8], used: us
         StartStep::Answer(answer) => match answer {
             Lines::Read(c) => {
                 let state = run.state;
-                let rows = run.rows;
                 Turned {
                     turn: Turn::Line(used),
-                    run: Run {
-                        cursor: c,
-                        state,
-                        rows,
-                    },
+                    run: Run { cursor: c, state },
                 }
             }
-            Lines::Refused(number, place) => refuse(n, run, out, used, number, place),
+            Lines::Refused(refusal) => refuse(run, out, used, refusal),
         },
     }
 }
 
 // The next record of the storm.
-fn record_turn(t: Traverse, run: Run, w: &[u8], last: bool, out: &mut [u8], used: usize) -> Turned
-    ensures { λ x. ⌜ leftTurn (t .count - 1) x (now (out .exit)) ≡ printedFrom (t .count - 1) (recordTurn t (now (w .entry)) last (run .cursor .at) (run .cursor .line) (run .state) (take (t .count - 1) (run .rows))) used run (now (out .entry)) ⌝ }
+fn record_turn(
+    head: Head,
+    points: &[i64],
+    run: Run,
+    w: &[u8],
+    last: bool,
+    numbers: &mut [i64],
+    rows: &mut [i64],
+    out: &mut [u8],
+    used: usize,
+) -> Turned
+    requires { ⌜ used + lineRoom ≤ length (now out) ⌝ }
+    ensures { λ x. ⌜ leftTurn x (now (numbers .exit)) (now (rows .exit)) (now (out .exit)) ≡ printed (recordHeard (traverse head (now (points .entry))) (now (w .entry)) last (run .cursor .at) (run .cursor .line) (run .state) (now (rows .entry)) (now (numbers .entry)) .said) run (recordHeard (traverse head (now (points .entry))) (now (w .entry)) last (run .cursor .at) (run .cursor .line) (run .state) (now (rows .entry)) (now (numbers .entry)) .numbers) (now (rows .entry)) (now (out .entry)) used ⌝ }
 {
     let cursor = run.cursor;
-    let step = cursor.record_step(w, last, t.count);
-    let answer = step.answer;
-    let got = step.got;
-    match answer {
-        Step::More => Turned {
+    let n = whole_groups(Station::NUMBERS, points.len());
+    match cursor.record_step(w, last, n, numbers) {
+        RecordStep::More => Turned {
             turn: Turn::More,
             run,
         },
-        Step::Answer(next) => match next {
-            Next::Read(c) => taken(t, got, run, c, out, used),
+        RecordStep::Answer(next) => match next {
+            Next::Read(c) => taken(head, points, numbers, run, c, rows, out, used),
             Next::End => Turned {
                 turn: Turn::End(used),
                 run,
             },
-            Next::Refused(number, place) => refuse(
-                segments(t.count),
-                run,
-                out,
-                used,
-                number,
-                place,
-            ),
+            Next::Refused(refusal) => refuse(run, out, used, refusal),
         },
     }
 }
 
-// One turn on a window of the storm, which the text may end with: the names line before any line was read, else the next record.
-// Open to callers: every argument may be anything whatever.
+// One turn on a window of the storm, which the text may end with: the names line before any line was read, else the next record, which is read
+// into the lent numbers and marched. Where the output has no room for a line, nothing is done. Open to callers: every argument may be anything
+// whatever.
 pub fn storm_turn(
-    t: Traverse,
+    head: Head,
+    points: &[i64],
     run: Run,
     w: &[u8],
     last: bool,
+    numbers: &mut [i64],
+    rows: &mut [i64],
     out: &mut [u8],
     used: usize,
 ) -> Turned
-    ensures { λ x. ⌜ leftTurn (t .count - 1) x (now (out .exit)) ≡ printedFrom (t .count - 1) (turnOf t (now (w .entry)) last (run .cursor .at) (run .cursor .line) (run .state) (take (t .count - 1) (run .rows))) used run (now (out .entry)) ⌝ }
+    ensures { λ x. ⌜ leftTurn x (now (numbers .exit)) (now (rows .exit)) (now (out .exit)) ≡ turnLeft (turnHeard (traverse head (now (points .entry))) (now (w .entry)) last (run .cursor .at) (run .cursor .line) (run .state) (now (rows .entry)) (now (numbers .entry))) run (now (numbers .entry)) (now (rows .entry)) (now (out .entry)) used ⌝ }
 {
-    let cursor = run.cursor;
-    if cursor.line == 0 {
-        return start_turn(segments(t.count), run, w, last, out, used);
-    }
-    record_turn(t, run, w, last, out, used)
-}
-
-// The rows of a fresh traverse.
-fn fresh_rows() -> [Row; 64]
-    ensures { λ r. ⌜ r ≡ replicate 64 freshRow ⌝ }
-{
-    [Row {
-        low: 0,
-        high: 0,
-        cross: 0,
-    }; 64]
-}
-
-// The names line of the listing.
-fn names(n: usize, run: Run, out: &mut [u8], used: usize) -> Turned
-    ensures { λ x. ⌜ leftTurn n x (now (out .exit)) ≡ printedFrom n (saysLater n namesLine run) used run (now (out .entry)) ⌝ }
-{
-    match listing::put_names(out, used) {
-        Put::Next(k) => Turned {
-            turn: Turn::Line(k),
-            run,
-        },
-        Put::Full => Turned {
+    if !has_line_room(out.len(), used) {
+        return Turned {
             turn: Turn::Full,
             run,
-        },
+        };
     }
+    let cursor = run.cursor;
+    if cursor.line == 0 {
+        return start_turn(run, w, last, out, used);
+    }
+    record_turn(head, points, run, w, last, numbers, rows, out, used)
 }
 
 // Opens a traverse that was read: the names line and a fresh run, or the refusal. Open to callers: any traverse whatever.
-pub fn begin(t: Traverse, out: &mut [u8], used: usize) -> Turned
-    ensures { λ x. ⌜ leftTurn (t .count - 1) x (now (out .exit)) ≡ printedFrom (t .count - 1) (beginOf t) used freshRun (now (out .entry)) ⌝ }
+pub fn begin(head: Head, points: &[i64], out: &mut [u8], used: usize) -> Turned
+    ensures { λ x. ⌜ leftTurn x [] [] (now (out .exit)) ≡ turnLeft (record { said = beginOf (traverse head (now (points .entry))) []; numbers = [] }) freshRun [] [] (now (out .entry)) used ⌝ }
 {
-    let n = segments(t.count);
-    let opened = march::open_traverse(t);
+    let opened = march::open_traverse(head, points);
     let check = opened.check;
     let state = opened.state;
     let run = Run {
         cursor: Cursor { at: 0, line: 0 },
         state,
-        rows: fresh_rows(),
     };
+    if !has_line_room(out.len(), used) {
+        return Turned {
+            turn: Turn::Full,
+            run,
+        };
+    }
     match check {
-        Check::Pass => names(n, run, out, used),
-        Check::Fail(refusal) => refuse(n, run, out, used, refusal.number(), refusal.place()),
+        Check::Pass => names(run, out, used),
+        Check::Fail(refusal) => refuse(run, out, used, refusal),
     }
 }

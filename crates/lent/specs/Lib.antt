@@ -1,4 +1,4 @@
 -- The root of the definitions of `lent`.
-pub mod Rows
-pub mod Take
-pub mod Demand3
+pub mod Numbers
+pub mod Calls
+pub mod Texts

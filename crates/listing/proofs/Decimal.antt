@@ -1,4 +1,4 @@
--- Laws of `decimalOf` and `signedOf`: how a number's digits follow from those of a tenth of it, and how many there are.
+-- Laws of `decimalOf` and `signedText`: how a number's digits follow from those of a tenth of it, and how many there are.
 -- Assumes nothing.
 use mathlib.Core.Path.{_≡_, refl, sym, ap, _∙_}
 use mathlib.Core.Bool.{Bool, true, false}

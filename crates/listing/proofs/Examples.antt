@@ -3,12 +3,12 @@
 use mathlib.Core.Path.{_≡_, refl}
 use mathlib.Core.List.{[], _∷_}
 use lib.IntN.{pos, negsuc}
-use Rattle.listing.specs.Decimal.{digitsOf, decimalOf, signedOf}
+use Rattle.listing.specs.Decimal.{digitsOf, decimalOf, signedText}
 use Rattle.listing.specs.Lines.{recordLine, refusedLine}
 
-pub nought : decimalOf 0 ≡ 48 ∷ []
+pub zero-digit : decimalOf 0 ≡ 48 ∷ []
 unfolding decimalOf digitsOf
-nought = refl
+zero-digit = refl
 
 pub seven : decimalOf 7 ≡ 55 ∷ []
 unfolding decimalOf digitsOf
@@ -18,8 +18,8 @@ pub ten : decimalOf 10 ≡ 49 ∷ 48 ∷ []
 unfolding decimalOf digitsOf
 ten = refl
 
-pub minus-five : signedOf (negsuc 4) ≡ 45 ∷ 53 ∷ []
-unfolding signedOf decimalOf digitsOf
+pub minus-five : signedText (negsuc 4) ≡ 45 ∷ 53 ∷ []
+unfolding signedText decimalOf digitsOf
 minus-five = refl
 
 -- 1600
@@ -33,20 +33,20 @@ pub greatest : decimalOf 18446744073709551615
 unfolding decimalOf digitsOf
 greatest = refl
 
-pub least : signedOf (negsuc 9223372036854775807)
+pub least : signedText (negsuc 9223372036854775807)
     ≡ 45 ∷ 57 ∷ 50 ∷ 50 ∷ 51 ∷ 51 ∷ 55 ∷ 50 ∷ 48 ∷ 51 ∷ 54 ∷ 56 ∷ 53 ∷ 52 ∷ 55 ∷ 55 ∷ 53 ∷ 56 ∷ 48 ∷ 56 ∷ []
-unfolding signedOf decimalOf digitsOf
+unfolding signedText decimalOf digitsOf
 least = refl
 
 -- document 01's listing: `0 2325 2326` and `1600 7302 7303`
 pub first-record : recordLine (pos 0) (pos 2325) (pos 2326)
     ≡ 48 ∷ 32 ∷ 50 ∷ 51 ∷ 50 ∷ 53 ∷ 32 ∷ 50 ∷ 51 ∷ 50 ∷ 54 ∷ 10 ∷ []
-unfolding recordLine signedOf decimalOf digitsOf
+unfolding recordLine signedText decimalOf digitsOf
 first-record = refl
 
 pub second-record : recordLine (pos 1600) (pos 7302) (pos 7303)
     ≡ 49 ∷ 54 ∷ 48 ∷ 48 ∷ 32 ∷ 55 ∷ 51 ∷ 48 ∷ 50 ∷ 32 ∷ 55 ∷ 51 ∷ 48 ∷ 51 ∷ 10 ∷ []
-unfolding recordLine signedOf decimalOf digitsOf
+unfolding recordLine signedText decimalOf digitsOf
 second-record = refl
 
 -- `refused 12 3`

@@ -7,7 +7,7 @@ use lib.ListN.{length, length-append}
 use lib.IntN.{ℤ, pos, negsuc}
 use mir.Syntax.{w64}
 use mir.Val.{SFits}
-use Rattle.listing.specs.Decimal.{decimalOf, signedOf}
+use Rattle.listing.specs.Decimal.{decimalOf, signedText}
 use Rattle.listing.specs.Lines.{space, feed, recordLine, refusedWord, refusedLine}
 use Rattle.listing.specs.Put.{Wrote}
 use Rattle.listing.proofs.Decimal.{length-most}
@@ -21,12 +21,12 @@ module _ {xs ys zs line : List ℕ} (whole : xs ++ ys ++ zs ≡ line) {at : ℕ}
       subst (λ (l : List ℕ). Wrote l at s c v) whole (wrote-on (wrote-on p q (omega arith)) r (omega (arith, length-append xs ys)))
 
 pub record-length : (elapsed low high : ℤ)
-    → length (recordLine elapsed low high) ≡ length (signedOf elapsed) + length (signedOf low) + length (signedOf high) + 3
+    → length (recordLine elapsed low high) ≡ length (signedText elapsed) + length (signedText low) + length (signedText high) + 3
 unfolding recordLine
 record-length elapsed low high = simp length-append (omega arith)
 
 pub record-parts : (elapsed low high : ℤ)
-    → (signedOf elapsed ++ space) ++ (signedOf low ++ space) ++ (signedOf high ++ feed) ≡ recordLine elapsed low high
+    → (signedText elapsed ++ space) ++ (signedText low ++ space) ++ (signedText high ++ feed) ≡ recordLine elapsed low high
 unfolding recordLine
 record-parts elapsed low high = simp append-assoc
 
@@ -41,8 +41,8 @@ refused-parts number place = simp append-assoc
 
 -- ---- the longest lines: a buffer with this much room is never full
 
-signed-most : (x : ℤ) → SFits w64 x → length (signedOf x) ≤ 20
-unfolding signedOf
+signed-most : (x : ℤ) → SFits w64 x → length (signedText x) ≤ 20
+unfolding signedText
 signed-most (pos n) f = let s = f .sfits in length-most 19 n (omega arith)
 signed-most (negsuc n) f = let s = f .sfits in let l = length-most 18 (suc n) (omega arith) in omega arith
 

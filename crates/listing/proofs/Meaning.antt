@@ -9,7 +9,7 @@ use lib.Seq.{append-snoc}
 use lib.Dec.{eqb}
 use lib.IntN.{ℤ, pos, negsuc}
 use borrow.Author.Tests.{eqb-true, eqb-false, ne-eqb}
-use Rattle.listing.specs.Decimal.{digit, decimalOf, signedOf}
+use Rattle.listing.specs.Decimal.{digit, decimalOf, signedText}
 use Rattle.listing.specs.Meaning.{worthAfter, worth, AllDigits, NoLeadingZero, Decimal, worthSigned}
 use Rattle.listing.proofs.Decimal.{decimal-small, decimal-large, by-size}
 
@@ -24,7 +24,7 @@ digits-last : (bs : List ℕ) (b : ℕ) → AllDigits bs → (48 ≤ b) × (b �
 digits-last [] b h k = (k, tt)
 digits-last (a ∷ bs) b h k = (h .0, digits-last bs b (h .1) k)
 
--- a number that is not nought does not begin with `0`
+-- a number that is not zero does not begin with `0`
 first-some : (b : ℕ) (bs : List ℕ) → NoLeadingZero (b ∷ bs) → 0 < worth (b ∷ bs) → b ≡ 48 → ⊥
 unfolding worthAfter
 first-some b bs h k e =
@@ -64,7 +64,7 @@ decimal-right n = decimal-below (suc n) n (omega arith)
 
 -- ---- nothing else is
 
--- one digit more behind a number that is not nought
+-- one digit more behind a number that is not zero
 one-more : (v b : ℕ) → 0 < v → (48 ≤ b) × (b ≤ 57) → decimalOf (v * 10 + (b - 48)) ≡ decimalOf v ++ (b ∷ [])
 one-more v b p h =
     let q : (v * 10 + (b - 48)) / 10 ≡ v = omega arith in
@@ -112,7 +112,7 @@ plain n (b ∷ bs) h =
     let e : eqb b 45 ≡ false = ne-eqb b 45 (omega arith) in
     rw e (ap pos (h .worths))
 
-pub signed-right : (x : ℤ) → worthSigned (signedOf x) ≡ x
-unfolding signedOf worthSigned
+pub signed-right : (x : ℤ) → worthSigned (signedText x) ≡ x
+unfolding signedText worthSigned
 signed-right (pos n) = plain n (decimalOf n) (decimal-right n)
 signed-right (negsuc n) = rw (decimal-right (suc n) .worths)

@@ -11,7 +11,7 @@ use lib.Signed.{ltZ, mag, nonNeg}
 use lib.Dec.{T}
 use mir.Syntax.{w64}
 use mir.Val.{SFits}
-use Rattle.listing.specs.Decimal.{decimalOf, signedOf}
+use Rattle.listing.specs.Decimal.{decimalOf, signedText}
 
 up-fits : (n : ℕ) → n < 2 ^ 63 → SFits w64 (sucℤ (negsuc n))
 up-fits zero h = record { sfits = omega arith }
@@ -21,16 +21,16 @@ up-size : (n : ℕ) → negℤ (sucℤ (negsuc n)) ≡ pos n
 up-size zero = refl
 up-size (suc n) = refl
 
--- below nought: one more than x fits, its negative is one less than x's size, and a minus stands in front of that size
+-- below zero: one more than x fits, its negative is one less than x's size, and a minus stands in front of that size
 pub record Below (x : ℤ) : Type 0 where
   pub more : SFits w64 (x +ℤ pos 1)
   pub less : pos 0 -ℤ (x +ℤ pos 1) ≡ pos (mag x)
   pub size : mag x + 1 ≡ natAbs x
   pub small : mag x < 2 ^ 63
-  pub spelt : signedOf x ≡ 45 ∷ decimalOf (natAbs x)
+  pub spelt : signedText x ≡ 45 ∷ decimalOf (natAbs x)
 
 pub below : (x : ℤ) → SFits w64 x → ltZ x (pos 0) ≡ true → Below x
-unfolding signedOf
+unfolding signedText
 below (pos n) f e = elim (not-suc-le-zero (ltb-true n 0 e)) [ ]
 below (negsuc n) f e = record {
   more = rw (+ℤ-one (negsuc n)) (up-fits n (f .sfits));
@@ -40,13 +40,13 @@ below (negsuc n) f e = record {
   spelt = refl;
 }
 
--- not below nought: x is its size, and no minus stands in front
+-- not below zero: x is its size, and no minus stands in front
 pub record Above (x : ℤ) : Type 0 where
   pub sign : T (nonNeg x)
   pub small : natAbs x < 2 ^ 63
-  pub spelt : signedOf x ≡ decimalOf (natAbs x)
+  pub spelt : signedText x ≡ decimalOf (natAbs x)
 
 pub above : (x : ℤ) → SFits w64 x → ltZ x (pos 0) ≡ false → Above x
-unfolding signedOf
+unfolding signedText
 above (pos n) f e = record { sign = tt; small = f .sfits; spelt = refl }
 above (negsuc n) f e = let z : _≡_ {A = ℕ} 0 1 = cc in let no : ⊥ = omega arith in elim no [ ]

@@ -24,7 +24,7 @@ digitsOf (suc k) n = lastDigit (ltb n 10) (digitsOf k) n
 unfoldable pub decimalOf : ℕ → List ℕ
 decimalOf n = digitsOf (n + 1) n
 
--- the same with a minus in front where it is below nought
-unfoldable pub signedOf : ℤ → List ℕ
-signedOf (pos n) = decimalOf n
-signedOf (negsuc n) = 45 ∷ decimalOf (suc n)
+-- the same with a minus in front where it is below zero
+unfoldable pub signedText : ℤ → List ℕ
+signedText (pos n) = decimalOf n
+signedText (negsuc n) = 45 ∷ decimalOf (suc n)

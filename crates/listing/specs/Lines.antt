@@ -2,7 +2,7 @@
 use Prim.Native.Nat.{ℕ}
 use mathlib.Core.List.{List, [], _∷_, _++_}
 use lib.IntN.{ℤ}
-use Rattle.listing.specs.Decimal.{decimalOf, signedOf}
+use Rattle.listing.specs.Decimal.{decimalOf, signedText}
 
 -- one space between values, and a line feed at the end of every line
 abbrev pub space : List ℕ
@@ -17,7 +17,7 @@ namesLine = 115 ∷ 101 ∷ 99 ∷ 111 ∷ 110 ∷ 100 ∷ 115 ∷ 32 ∷ 108 �
 
 -- an accepted record: elapsed seconds, and the low and the high end of the shore height
 unfoldable pub recordLine : ℤ → ℤ → ℤ → List ℕ
-recordLine elapsed low high = signedOf elapsed ++ space ++ signedOf low ++ space ++ signedOf high ++ feed
+recordLine elapsed low high = signedText elapsed ++ space ++ signedText low ++ space ++ signedText high ++ feed
 
 -- `refused` and a space
 abbrev pub refusedWord : List ℕ

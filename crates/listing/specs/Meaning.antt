@@ -1,4 +1,4 @@
--- What a decimal number says, apart from how it is made: the measure for `decimalOf` and `signedOf`. Assumes nothing.
+-- What a decimal number says, apart from how it is made: the measure for `decimalOf` and `signedText`. Assumes nothing.
 use mathlib.Core.Path.{_≡_}
 use mathlib.Core.List.{List, [], _∷_}
 use Prim.Native.Nat.{ℕ, _+_, _-_, _*_, _≤_}

@@ -9,9 +9,9 @@ ghost use Prim.Native.Nat.{_+_, _<_, _≤_};
 ghost use lib.ListN.{length};
 ghost use lib.Dec.{leb};
 ghost use lib.IntN.{natAbs};
-ghost use Rattle.listing.specs.Decimal.{decimalOf, signedOf};
+ghost use Rattle.listing.specs.Decimal.{decimalOf, signedText};
 ghost use Rattle.listing.specs.Lines.{namesLine, recordLine, refusedLine};
-ghost use Rattle.listing.specs.Put.{given, putOf, Wrote};
+ghost use Rattle.listing.specs.Put.{afterPut, putOf, Wrote};
 
 // The place behind a line that was put, or that the line does not fit.
 pub enum Put {
@@ -58,7 +58,7 @@ fn size_of(x: i64) -> u64
 
 // How many bytes x takes with its sign.
 fn signed_count(x: i64) -> usize
-    ensures { λ r. ⌜ (r ≡ length (signedOf x)) × (r ≤ 21) ⌝ }
+    ensures { λ r. ⌜ (r ≡ length (signedText x)) × (r ≤ 21) ⌝ }
 {
     let count = digit_count(size_of(x));
     if x < 0 {
@@ -101,8 +101,8 @@ fn write_decimal(out: &mut [u8], at: usize, n: u64, close: u8) -> usize
 
 // x and the byte that closes it.
 fn write_signed(out: &mut [u8], at: usize, x: i64, close: u8) -> usize
-    requires { ⌜ at + length (signedOf x) < length (now out) ⌝ }
-    ensures { λ r. ⌜ Wrote (signedOf x ++ (close ∷ [])) at (now (out .entry)) r (now (out .exit)) ⌝ }
+    requires { ⌜ at + length (signedText x) < length (now out) ⌝ }
+    ensures { λ r. ⌜ Wrote (signedText x ++ (close ∷ [])) at (now (out .entry)) r (now (out .exit)) ⌝ }
 {
     let size = size_of(x);
     if x < 0 {
@@ -146,7 +146,7 @@ fn write_refused(out: &mut [u8], at: usize, number: u64, place: u64) -> usize
 
 // The names line, which is printed once `traverse.txt` is accepted.
 pub fn put_names(out: &mut [u8], at: usize) -> Put
-    ensures { λ r. ⌜ given r (now (out .exit)) ≡ putOf namesLine at (now (out .entry)) ⌝ }
+    ensures { λ r. ⌜ afterPut r (now (out .exit)) ≡ putOf namesLine at (now (out .entry)) ⌝ }
 {
     if !has_room(out.len(), at, 17) {
         return Put::Full;
@@ -156,7 +156,7 @@ pub fn put_names(out: &mut [u8], at: usize) -> Put
 
 // The line of an accepted record: elapsed seconds, then the ends of the shore height.
 pub fn put_record(out: &mut [u8], at: usize, elapsed: i64, low: i64, high: i64) -> Put
-    ensures { λ r. ⌜ given r (now (out .exit)) ≡ putOf (recordLine elapsed low high) at (now (out .entry)) ⌝ }
+    ensures { λ r. ⌜ afterPut r (now (out .exit)) ≡ putOf (recordLine elapsed low high) at (now (out .entry)) ⌝ }
 {
     let count = record_count(elapsed, low, high);
     if !has_room(out.len(), at, count) {
@@ -167,7 +167,7 @@ pub fn put_record(out: &mut [u8], at: usize, elapsed: i64, low: i64, high: i64) 
 
 // The last line where the input is refused: the refusal's number and its place.
 pub fn put_refused(out: &mut [u8], at: usize, number: u64, place: u64) -> Put
-    ensures { λ r. ⌜ given r (now (out .exit)) ≡ putOf (refusedLine number place) at (now (out .entry)) ⌝ }
+    ensures { λ r. ⌜ afterPut r (now (out .exit)) ≡ putOf (refusedLine number place) at (now (out .entry)) ⌝ }
 {
     let count = refused_count(number, place);
     if !has_room(out.len(), at, count) {

@@ -55,12 +55,12 @@ none-bad ok (suc n) i e j h l = go (ok i) refl (λ z q. none-bad ok n (i + 1) z 
     no-way : (i : ℕ) → i + 1 ≡ 0 → ⊥
     no-way i e = omega arith
 
-    pick : ok i ≡ true → (firstBad ok n (i + 1) ≡ 0 → i + 1 ≤ j → ok j ≡ true) → firstBad ok n (i + 1) ≡ 0 → (i ≡ j) ⊎ (i + 1 ≤ j) → ok j ≡ true
-    pick t f e (inl q) = rw q at t
-    pick t f e (inr q) = f e q
+    by : ok i ≡ true → (firstBad ok n (i + 1) ≡ 0 → i + 1 ≤ j → ok j ≡ true) → firstBad ok n (i + 1) ≡ 0 → (i ≡ j) ⊎ (i + 1 ≤ j) → ok j ≡ true
+    by t f e (inl q) = rw q at t
+    by t f e (inr q) = f e q
 
     go : (t : Bool) → ok i ≡ t → (firstBad ok n (i + 1) ≡ 0 → i + 1 ≤ j → ok j ≡ true) → cond t (firstBad ok n (i + 1)) (i + 1) ≡ 0 → ok j ≡ true
-    go true t f e = pick t f e (le-split i j h)
+    go true t f e = by t f e (le-split i j h)
     go false t f e = absurd (no-way i e)
 
 -- and where each is ok, none is bad

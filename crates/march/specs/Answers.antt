@@ -2,11 +2,11 @@
 -- to callers are stated with these.
 use Prim.Native.Nat.{ℕ}
 use lib.IntN.{ℤ}
+use Rattle.records.specs.Refusals.{numberOf}
 use Rattle.march.specs.declared.Check.{Check}
 use Rattle.march.specs.declared.Check.the-variants.{Pass, Fail}
 use Rattle.march.specs.declared.Answer.{Answer}
 use Rattle.march.specs.declared.Answer.the-variants.{Accepted, Refused}
-use Rattle.march.specs.Refusals.{numberOf, placeOf}
 
 -- a record: elapsed seconds, low and high of the shore height; or the refusal's number and place
 pub data Told : Type 0 where
@@ -15,7 +15,7 @@ pub data Told : Type 0 where
 
 abbrev pub toldOf : Answer → Told
 toldOf (Accepted elapsed low high) = accepted elapsed low high
-toldOf (Refused refusal) = refused (numberOf refusal) (placeOf refusal)
+toldOf (Refused refusal) = refused (numberOf (refusal .kind)) (refusal .place)
 
 -- a traverse
 pub data ToldOpen : Type 0 where
@@ -24,4 +24,4 @@ pub data ToldOpen : Type 0 where
 
 abbrev pub toldOpen : Check → ToldOpen
 toldOpen Pass = opened
-toldOpen (Fail refusal) = notOpened (numberOf refusal) (placeOf refusal)
+toldOpen (Fail refusal) = notOpened (numberOf (refusal .kind)) (refusal .place)

@@ -1,11 +1,6 @@
 -- The root of the definitions of `march`.
-pub mod Limits
-pub mod Refusals
 pub mod Answers
-pub mod Rows
-pub mod Segment
-pub mod SegmentBounds
-pub mod ExactSegment
+pub mod Given
 pub mod Checks
 pub mod March
 pub mod MarchBounds

@@ -1,49 +1,54 @@
--- A record marched over the segments, sea to shore.
-use mathlib.Core.Bool.{Bool, true, false, cond, not}
+-- A step of the march: the segments worked from sea to shore. A record is one step.
+use mathlib.Core.Bool.{Bool, cond}
 use mathlib.Core.List.{List, [], _∷_}
-use Prim.Native.Nat.{ℕ, zero, suc, _+_}
-use lib.ListN.{length, getD, take}
+use Prim.Native.Nat.{ℕ, zero, suc, _+_, _*_}
 use lib.IntN.{ℤ, pos, _+ℤ_, _-ℤ_}
+use lib.Seq.{sets}
 use Rattle.ranges.specs.declared.Range.{Range}
 use Rattle.forcing.specs.Quadrant.{sineOf}
 use Rattle.forcing.specs.Stress.{crossOf, onshoreOf}
+use Rattle.records.specs.declared.Head.{Head}
+use Rattle.records.specs.declared.Closing.{Closing}
 use Rattle.records.specs.declared.Station.{Station}
-use Rattle.records.specs.declared.Traverse.{Traverse}
 use Rattle.records.specs.declared.Point.{Point}
-use Rattle.records.specs.declared.Record.{Record}
-use Rattle.march.specs.declared.Row.{Row}
-use Rattle.march.specs.declared.Site.{Site}
-use Rattle.march.specs.declared.Load.{Load}
+use Rattle.records.specs.declared.Row.{Row}
+use Rattle.records.specs.declared.Refusal.{Refusal}
+use Rattle.records.specs.Groups.{at, stationAt, pointAt, rowAt, groups}
+use Rattle.records.specs.Rows.{freshRow}
+use Rattle.records.specs.Shapes.{Traverse, Record}
+use Rattle.segment.specs.declared.Site.{Site}
+use Rattle.segment.specs.declared.Weather.{Weather}
+use Rattle.segment.specs.declared.Leg.{Leg}
+use Rattle.segment.specs.declared.SegmentAnswer.{SegmentAnswer}
+use Rattle.segment.specs.declared.SegmentAnswer.the-variants.{On, Stop}
+use Rattle.segment.specs.Segment.{segmentOf}
+use Rattle.march.specs.declared.End.{End}
 use Rattle.march.specs.declared.Setting.{Setting}
-use Rattle.march.specs.declared.Leg.{Leg}
-use Rattle.march.specs.declared.Step.{Step}
-use Rattle.march.specs.declared.Step.the-variants.{On, Stop}
-use Rattle.march.specs.declared.Refusal.{Refusal}
 use Rattle.march.specs.declared.Check.{Check}
 use Rattle.march.specs.declared.Check.the-variants.{Pass, Fail}
-use Rattle.march.specs.declared.Marched.{Marched}
-use Rattle.march.specs.Rows.{chosenRow}
-use Rattle.march.specs.Checks.{stationAt, pointAt, rowAt}
-use Rattle.march.specs.Segment.{segmentOf}
 
--- ---- what segment i, from 0, is given. It lies between the points i and i + 1
+-- ---- what segment i, from 0, is given by the traverse. It lies between the points i and i + 1
+
+abbrev pub frictionAt : Traverse → ℕ → ℤ
+frictionAt t i = t .head .friction
 
 abbrev pub siteOf : ℤ → ℤ → Station → Station → Site
 siteOf sine friction a b = record { length = a .distance -ℤ b .distance; depths = a .depth +ℤ b .depth; sine = sine; friction = friction }
 
 abbrev pub siteAt : Traverse → ℕ → Site
-siteAt t i = siteOf (sineOf (t .latitude)) (t .friction) (stationAt t i) (stationAt t (i + 1))
+siteAt t i = siteOf (sineOf (t .head .latitude)) (frictionAt t i) (stationAt (t .points) i) (stationAt (t .points) (i + 1))
+
+-- ---- and by the record: all is this record's, "Here and in the shore height, tide and deficits are this record's"
 
 -- the sums over a segment's two ends of the cross and of the onshore stress
-unfoldable pub crossSum : Point → Point → ℤ
+abbrev pub crossSum : Point → Point → ℤ
 crossSum p q = crossOf (p .wind) (p .angle) +ℤ crossOf (q .wind) (q .angle)
 
-unfoldable pub onshoreSum : Point → Point → ℤ
+abbrev pub onshoreSum : Point → Point → ℤ
 onshoreSum p q = onshoreOf (p .wind) (p .angle) +ℤ onshoreOf (q .wind) (q .angle)
 
--- all is this record's: "Here and in the shore height, tide and deficits are this record's"
-abbrev pub loadOf : ℤ → ℤ → Point → Point → Load
-loadOf seconds level p q = record {
+abbrev pub weatherOf : ℤ → ℤ → Point → Point → Weather
+weatherOf seconds level p q = record {
   seconds = seconds;
   level = level;
   deficits = p .deficit +ℤ q .deficit;
@@ -53,14 +58,23 @@ loadOf seconds level p q = record {
 
 -- initial + tide
 abbrev pub levelOf : Traverse → Record → ℤ
-levelOf t r = t .initial +ℤ r .tide
+levelOf t r = t .head .initial +ℤ r .closing .tide
 
-abbrev pub loadAt : Traverse → Record → ℕ → Load
-loadAt t r i = loadOf (r .seconds) (levelOf t r) (pointAt r i) (pointAt r (i + 1))
+abbrev pub weatherAt : Traverse → Record → ℕ → Weather
+weatherAt t r i = weatherOf (r .closing .seconds) (levelOf t r) (pointAt (r .points) i) (pointAt (r .points) (i + 1))
 
--- the row that segment i works from
-abbrev pub workingRow : Bool → List Row → ℕ → Row
-workingRow first rows i = chosenRow first (rowAt rows i)
+-- ---- the row that it works from
+
+-- a fresh traverse's row of segment i
+abbrev pub freshRowAt : Traverse → ℕ → Row
+freshRowAt t i = freshRow
+
+-- the one that a first record works from: "The first record, once past check 8, works as if all rows were fresh"
+abbrev pub firstRowAt : Traverse → ℕ → Row
+firstRowAt t i = freshRowAt t i
+
+abbrev pub workingRow : Traverse → Bool → List ℤ → ℕ → Row
+workingRow t first rows i = cond first (firstRowAt t i) (rowAt rows i)
 
 -- ---- the march
 
@@ -74,39 +88,82 @@ before leg (stopped refusal) = stopped refusal
 before leg (done legs) = done (leg ∷ legs)
 
 -- a segment that passed hands its setup on to the next
-abbrev pub further : Step → (Range → March) → March
+abbrev pub further : SegmentAnswer → (Range → March) → March
 further (On leg) rest = before leg (rest (leg .setup))
 further (Stop refusal) rest = stopped refusal
 
--- k segments from segment i on, by any step
-unfoldable pub marchBy : (ℕ → Range → Step) → ℕ → ℕ → Range → March
-marchBy step zero i s = done []
-marchBy step (suc k) i s = further (step i s) (marchBy step k (i + 1))
+-- k segments from segment i on, whatever a segment does
+unfoldable pub marchBy : (ℕ → Range → SegmentAnswer) → ℕ → ℕ → Range → March
+marchBy segment zero i s = done []
+marchBy segment (suc k) i s = further (segment i s) (marchBy segment k (i + 1))
 
-unfoldable pub stepAt : Traverse → Record → Bool → List Row → ℕ → Range → Step
-stepAt t r first rows i s = segmentOf (i + 1) first (siteAt t i) (loadAt t r i) (workingRow first rows i) s
+unfoldable pub segmentAt : Traverse → Record → Bool → List ℤ → ℕ → Range → SegmentAnswer
+segmentAt t r first rows i s = segmentOf (i + 1) first (siteAt t i) (weatherAt t r i) (workingRow t first rows i) s
 
 -- "S before segment 1 being the range 0 to 0"
 abbrev pub noSetup : Range
 noSetup = record { low = pos 0; high = pos 0 }
 
 -- n segments
-abbrev pub marchOf : Traverse → Record → Bool → List Row → ℕ → March
-marchOf t r first rows n = marchBy (stepAt t r first rows) n 0 noSetup
+abbrev pub marchOf : Traverse → Record → Bool → List ℤ → ℕ → March
+marchOf t r first rows n = marchBy (segmentAt t r first rows) n 0 noSetup
 
--- ---- the code's own names: what is the same for every segment, and a segment from its two points
+-- ---- the code's own names
 
-abbrev pub settingOf : Traverse → Record → Bool → Setting
-settingOf t r first = record { first = first; sine = sineOf (t .latitude); friction = t .friction; seconds = r .seconds; level = levelOf t r }
+-- what a point gives to the two segments that end there
+abbrev pub endOf : Station → Point → End
+endOf a p = record {
+  distance = a .distance;
+  depth = a .depth;
+  deficit = p .deficit;
+  cross = crossOf (p .wind) (p .angle);
+  onshore = onshoreOf (p .wind) (p .angle);
+}
 
-abbrev pub pointSegment : ℕ → Setting → Station → Station → Point → Point → Row → Range → Step
-pointSegment place k a b p q row s = segmentOf place (k .first) (siteOf (k .sine) (k .friction) a b) (loadOf (k .seconds) (k .level) p q) (chosenRow (k .first) row) s
+unfoldable pub endAt : List ℤ → List ℤ → ℕ → End
+endAt points winds i = endOf (stationAt points i) (pointAt winds i)
 
--- ---- what the code answers, of n segments
+-- what is the same for every segment
+abbrev pub settingOf : Head → Closing → Bool → Setting
+settingOf h c first = record { first = first; sine = sineOf (h .latitude); friction = h .friction; seconds = c .seconds; level = h .initial +ℤ c .tide }
 
-abbrev pub toldBy : Check → List Leg → March
-toldBy Pass legs = done legs
-toldBy (Fail refusal) legs = stopped refusal
+abbrev pub siteBetween : Setting → End → End → Site
+siteBetween k a b = record { length = a .distance -ℤ b .distance; depths = a .depth +ℤ b .depth; sine = k .sine; friction = k .friction }
 
-abbrev pub told : ℕ → Marched → March
-told n m = toldBy (m .check) (take n (m .legs))
+abbrev pub weatherBetween : Setting → End → End → Weather
+weatherBetween k a b = record {
+  seconds = k .seconds;
+  level = k .level;
+  deficits = a .deficit +ℤ b .deficit;
+  cross = a .cross +ℤ b .cross;
+  onshore = a .onshore +ℤ b .onshore;
+}
+
+abbrev pub chosenRow : Bool → Row → Row
+chosenRow first row = cond first freshRow row
+
+-- the segment numbered `place` between two ends
+abbrev pub segmentBetween : ℕ → Setting → End → End → Row → Range → SegmentAnswer
+segmentBetween place k a b row s = segmentOf place (k .first) (siteBetween k a b) (weatherBetween k a b) (chosenRow (k .first) row) s
+
+-- ---- the scratch: five numbers a segment, its new row and the setup after it
+
+unfoldable pub legAt : List ℤ → ℕ → Leg
+legAt l i = record {
+  row = record { low = at l (5 * i); high = at l (5 * i + 1); cross = at l (5 * i + 2) };
+  setup = record { low = at l (5 * i + 3); high = at l (5 * i + 4) };
+}
+
+abbrev pub ofLeg : Leg → List ℤ
+ofLeg g = g .row .low ∷ g .row .high ∷ g .row .cross ∷ g .setup .low ∷ g .setup .high ∷ []
+
+unfoldable pub putLeg : List ℤ → ℕ → Leg → List ℤ
+putLeg l i g = sets l (5 * i) (ofLeg g)
+
+abbrev pub legsOf : List ℤ → ℕ → List Leg
+legsOf work = groups (legAt work)
+
+-- what the code answers: whether it came through, and the legs that its scratch holds
+abbrev pub marched : Check → List Leg → March
+marched Pass legs = done legs
+marched (Fail refusal) legs = stopped refusal

@@ -1,66 +1,70 @@
-// The march over the segments, on local copies: nothing that the caller lent is touched.
+// The march over the segments, from sea to shore, in scratch: nothing that the caller lent is touched. Each point is looked at once, and its
+// wind's stress worked out once, for the segment that ends there and the one that begins.
+use super::Call;
 use super::Check;
-use super::Leg;
-use super::Load;
-use super::Marched;
-use super::Row;
+use super::End;
 use super::Setting;
-use super::Site;
-use super::Step;
-use super::segment::march_segment;
+use super::legs::store_leg;
 use ranges::Range;
-use records::Point;
-use records::Record;
-use records::Station;
-use records::Traverse;
+use records::Row;
+use records::groups::point_at;
+use records::groups::row_at;
+use records::groups::station_at;
+use segment::SegmentAnswer;
+use segment::Site;
+use segment::Weather;
+use segment::march_segment;
 ghost use mathlib.Core.Path.{_≡_};
-ghost use Prim.Native.Nat.{_+_, _-_};
+ghost use mathlib.Core.Bool.{not};
+ghost use Prim.Native.Nat.{_+_, _*_, _≤_, _<_};
+ghost use lib.ListN.{length};
 ghost use Rattle.forcing.specs.Sine.{TableRight};
-ghost use Rattle.march.specs.Rows.{chosenRow};
-ghost use Rattle.march.specs.March.{siteOf, crossSum, onshoreSum, loadOf, levelOf, settingOf, pointSegment, marchOf, told};
-ghost use Rattle.march.specs.MarchBounds.{StationIn, PointIn, PointsIn, SettingIn, MarchIn};
+ghost use Rattle.records.specs.Groups.{pointAt};
+ghost use Rattle.records.specs.Shapes.{traverse, storm};
+ghost use Rattle.march.specs.March.{endAt, settingOf, siteBetween, weatherBetween, chosenRow, segmentBetween, marchOf, legsOf, marched};
+ghost use Rattle.march.specs.MarchBounds.{PointIn, EndIn, BetweenIn, SettingIn, MarchIn};
 
-// The segment between two points of the traverse.
-pub fn site_of(sine: i64, friction: i64, a: Station, b: Station) -> Site
-    requires { ⌜ (StationIn a) × (StationIn b) ⌝ }
-    ensures { λ r. ⌜ r ≡ siteOf sine friction a b ⌝ }
+// Point i, from 0, as the end of a segment.
+pub fn end_at(table: &[u16; 901], points: &[i64], winds: &[i64], i: usize) -> End
+    requires { ⌜ (TableRight (now table)) × ((2 * i + 1 < length (now points)) × ((3 * i + 2 < length (now winds)) × (PointIn (pointAt (now winds) i)))) ⌝ }
+    ensures { λ r. ⌜ r ≡ endAt (now (points .entry)) (now (winds .entry)) i ⌝ }
 {
-    Site {
-        length: a.distance - b.distance,
-        depths: a.depth + b.depth,
-        sine: sine,
-        friction: friction,
+    let station = station_at(points, i);
+    let point = point_at(winds, i);
+    let stress = forcing::point_stress(table, point.wind, point.angle);
+    End {
+        distance: station.distance,
+        depth: station.depth,
+        deficit: point.deficit,
+        cross: stress.cross,
+        onshore: stress.onshore,
     }
 }
 
-// The sums over a segment's two ends of the stresses across and along the traverse.
-pub fn cross_sum(table: &[u16; 901], p: Point, q: Point) -> i64
-    requires { ⌜ (TableRight (now table)) × ((PointIn p) × (PointIn q)) ⌝ }
-    ensures { λ r. ⌜ r ≡ crossSum p q ⌝ }
+// What the traverse gives the segment between two ends.
+pub fn site_between(k: Setting, sea: End, shore: End) -> Site
+    requires { ⌜ (EndIn sea) × (EndIn shore) ⌝ }
+    ensures { λ r. ⌜ r ≡ siteBetween k sea shore ⌝ }
 {
-    forcing::cross(table, p.wind, p.angle) + forcing::cross(table, q.wind, q.angle)
+    Site {
+        length: sea.distance - shore.distance,
+        depths: sea.depth + shore.depth,
+        sine: k.sine,
+        friction: k.friction,
+    }
 }
 
-pub fn onshore_sum(table: &[u16; 901], p: Point, q: Point) -> i64
-    requires { ⌜ (TableRight (now table)) × ((PointIn p) × (PointIn q)) ⌝ }
-    ensures { λ r. ⌜ r ≡ onshoreSum p q ⌝ }
+// And what the record gives it.
+pub fn weather_between(k: Setting, sea: End, shore: End) -> Weather
+    requires { ⌜ (EndIn sea) × (EndIn shore) ⌝ }
+    ensures { λ r. ⌜ r ≡ weatherBetween k sea shore ⌝ }
 {
-    forcing::onshore(table, p.wind, p.angle) + forcing::onshore(table, q.wind, q.angle)
-}
-
-// What a record gives the segment between two of its points.
-pub fn load_of(table: &[u16; 901], seconds: i64, level: i64, p: Point, q: Point) -> Load
-    requires { ⌜ (TableRight (now table)) × ((PointIn p) × (PointIn q)) ⌝ }
-    ensures { λ r. ⌜ r ≡ loadOf seconds level p q ⌝ }
-{
-    let cross = cross_sum(table, p, q);
-    let onshore = onshore_sum(table, p, q);
-    Load {
-        seconds: seconds,
-        level: level,
-        deficits: p.deficit + q.deficit,
-        cross: cross,
-        onshore: onshore,
+    Weather {
+        seconds: k.seconds,
+        level: k.level,
+        deficits: sea.deficit + shore.deficit,
+        cross: sea.cross + shore.cross,
+        onshore: sea.onshore + shore.onshore,
     }
 }
 
@@ -74,84 +78,77 @@ pub fn chosen_row(first: bool, row: Row) -> Row
     row
 }
 
-// One segment from its two points.
-pub fn point_segment(
-    table: &[u16; 901],
+// The segment numbered `place` between two ends.
+pub fn segment_between(
     place: usize,
     k: Setting,
-    a: Station,
-    b: Station,
-    p: Point,
-    q: Point,
+    sea: End,
+    shore: End,
     row: Row,
     setup: Range,
-) -> Step
-    requires { ⌜ (TableRight (now table)) × (PointsIn k a b p q row setup) ⌝ }
-    ensures { λ r. ⌜ r ≡ pointSegment place k a b p q row setup ⌝ }
+) -> SegmentAnswer
+    requires { ⌜ BetweenIn k sea shore row setup ⌝ }
+    ensures { λ r. ⌜ r ≡ segmentBetween place k sea shore row setup ⌝ }
 {
-    let site = site_of(k.sine, k.friction, a, b);
-    let load = load_of(table, k.seconds, k.level, p, q);
-    march_segment(place, k.first, site, load, chosen_row(k.first, row), setup)
+    let site = site_between(k, sea, shore);
+    let weather = weather_between(k, sea, shore);
+    march_segment(
+        place,
+        k.first,
+        site,
+        weather,
+        chosen_row(k.first, row),
+        setup,
+    )
 }
 
 // What is the same for every segment.
-pub fn setting_of(table: &[u16; 901], t: Traverse, r: Record, first: bool) -> Setting
-    requires { ⌜ (TableRight (now table)) × (SettingIn t r) ⌝ }
-    ensures { λ k. ⌜ k ≡ settingOf t r first ⌝ }
+pub fn setting_of(table: &[u16; 901], call: Call) -> Setting
+    requires { ⌜ (TableRight (now table)) × (SettingIn (call .head) (call .closing)) ⌝ }
+    ensures { λ k. ⌜ k ≡ settingOf (call .head) (call .closing) (not (call .state .started)) ⌝ }
 {
+    let head = call.head;
+    let closing = call.closing;
+    let state = call.state;
     Setting {
-        first: first,
-        sine: forcing::sine(table, t.latitude),
-        friction: t.friction,
-        seconds: r.seconds,
-        level: t.initial + r.tide,
+        first: !state.started,
+        sine: forcing::sine(table, head.latitude),
+        friction: head.friction,
+        seconds: closing.seconds,
+        level: head.initial + closing.tide,
     }
 }
 
-// All segments from the sea on, until one is refused.
-pub fn march(t: Traverse, r: Record, first: bool, rows: [Row; 64]) -> Marched
-    requires { ⌜ MarchIn t r rows ⌝ }
-    ensures { λ m. ⌜ told (t .count - 1) m ≡ marchOf t r first rows (t .count - 1) ⌝ }
+// All n segments from the sea on, until one is refused; `work` holds what each left.
+pub fn march(
+    call: Call,
+    points: &[i64],
+    winds: &[i64],
+    rows: &[i64],
+    n: usize,
+    work: &mut [i64],
+) -> Check
+    requires { ⌜ (MarchIn (traverse (call .head) (now points)) (storm (call .closing) (now winds)) (now rows) n) × (5 * n ≤ length (now work)) ⌝ }
+    ensures { λ r. ⌜ marched r (legsOf (now (work .exit)) n) ≡ marchOf (traverse (call .head) (now (points .entry))) (storm (call .closing) (now (winds .entry))) (not (call .state .started)) (now (rows .entry)) n ⌝ }
 {
-    let n = t.count - 1;
     let table = forcing::sine_table();
-    let k = setting_of(&table, t, r, first);
-    let mut legs = [Leg {
-        row: Row {
-            low: 0,
-            high: 0,
-            cross: 0,
-        },
-        setup: Range { low: 0, high: 0 },
-    }; 64];
+    let k = setting_of(&table, call);
+    let mut sea = end_at(&table, points, winds, 0);
     let mut setup = Range { low: 0, high: 0 };
     for i in 0..n {
-        let step = point_segment(
-            &table,
-            i + 1,
-            k,
-            t.stations[i],
-            t.stations[i + 1],
-            r.points[i],
-            r.points[i + 1],
-            rows[i],
-            setup,
-        );
-        match step {
-            Step::On(leg) => {
-                legs[i] = leg;
+        let shore = end_at(&table, points, winds, i + 1);
+        let row = row_at(rows, i);
+        let answer = segment_between(i + 1, k, sea, shore, row, setup);
+        match answer {
+            SegmentAnswer::On(leg) => {
+                store_leg(work, i, leg);
                 setup = leg.setup;
+                sea = shore;
             }
-            Step::Stop(refusal) => {
-                return Marched {
-                    check: Check::Fail(refusal),
-                    legs: legs,
-                };
+            SegmentAnswer::Stop(refusal) => {
+                return Check::Fail(refusal);
             }
         }
     }
-    Marched {
-        check: Check::Pass,
-        legs: legs,
-    }
+    Check::Pass
 }

@@ -1,130 +1,144 @@
 // Taking a record: checks, march, and only then the commit to rows and setup places.
 use super::Answer;
+use super::Call;
 use super::Check;
-use super::Leg;
-use super::Refusal;
-use super::Row;
 use super::State;
 use super::Taken;
 use super::checks::check_all;
+use super::legs::leg_at;
+use super::legs::store_setup;
 use super::march::march;
-use records::Record;
-use records::Traverse;
+use records::Row;
+use records::groups::point_at;
+use records::groups::store_row;
+use records::groups::whole_groups;
+use records::limits::POINTS_MOST;
 ghost use mathlib.Core.Path.{_≡_};
-ghost use mathlib.Core.List.{map};
-ghost use Prim.Native.Nat.{_-_, _*_, _≤_};
-ghost use lib.ListN.{length, take};
-ghost use Rattle.march.specs.Take.{legRow, setupPlaces, shoreBase, leftBy, takeOf};
-ghost use Rattle.march.specs.TakeBounds.{ShoreIn, AcceptIn, AcceptedBy, refusedBy};
+ghost use Prim.Native.Nat.{_*_, _≤_};
+ghost use lib.ListN.{length};
+ghost use Rattle.records.specs.Limits.{mostPoints};
+ghost use Rattle.records.specs.Shapes.{traverse, storm};
+ghost use Rattle.march.specs.Given.{given, segments};
+ghost use Rattle.march.specs.March.{legsOf};
+ghost use Rattle.march.specs.MarchBounds.{MarchIn};
+ghost use Rattle.march.specs.Take.{rowNumbers, setupNumbers, shoreOf, takeOf, left};
+ghost use Rattle.march.specs.TakeBounds.{mostSegments, AcceptIn, acceptedBy};
 
-// The rows of n legs, in their places.
-pub fn commit_rows(rows: [Row; 64], legs: [Leg; 64], n: usize) -> [Row; 64]
-    requires { ⌜ n ≤ 64 ⌝ }
-    ensures { λ r. ⌜ take n r ≡ map legRow (take n legs) ⌝ }
+// The rows of n segments.
+pub fn commit_rows(rows: &mut [i64], work: &[i64], n: usize)
+    requires { ⌜ (length (now rows) ≡ 3 * n) × (5 * n ≤ length (now work)) ⌝ }
+    ensures { λ _. ⌜ now (rows .exit) ≡ rowNumbers (legsOf (now (work .entry)) n) ⌝ }
 {
-    let mut out = rows;
     let mut i = 0;
     while i < n {
-        let leg = legs[i];
+        let leg = leg_at(work, i);
         let row = leg.row;
-        out[i] = row;
+        store_row(rows, i, row);
         i += 1;
     }
-    out
 }
 
-// The setup ranges of k legs, low then high.
-pub fn commit_setup(setup: &mut [i64], legs: [Leg; 64], k: usize)
-    requires { ⌜ (k ≤ 64) × (length (now setup) ≡ 2 * k) ⌝ }
-    ensures { λ _. ⌜ now (setup .exit) ≡ setupPlaces (take k legs) ⌝ }
+// The setup ranges of k segments, low then high.
+pub fn commit_setup(setup: &mut [i64], work: &[i64], k: usize)
+    requires { ⌜ (length (now setup) ≡ 2 * k) × (5 * k ≤ length (now work)) ⌝ }
+    ensures { λ _. ⌜ now (setup .exit) ≡ setupNumbers (legsOf (now (work .entry)) k) ⌝ }
 {
     let mut i = 0;
     while i < k {
-        let leg = legs[i];
-        let s = leg.setup;
-        let low = s.low;
-        let high = s.high;
-        setup[2 * i] = low;
-        setup[2 * i + 1] = high;
+        let leg = leg_at(work, i);
+        let range = leg.setup;
+        store_setup(setup, i, range);
         i += 1;
     }
 }
 
-// What the shore height has beside the setup.
-pub fn shore_base(t: Traverse, r: Record) -> i64
-    requires { ⌜ ShoreIn t r ⌝ }
-    ensures { λ x. ⌜ x ≡ shoreBase t r ⌝ }
+// What the shore height has beside the setup, of n segments.
+pub fn shore_of(call: Call, points: &[i64], winds: &[i64], rows: &[i64], n: usize) -> i64
+    requires { ⌜ (MarchIn (traverse (call .head) (now points)) (storm (call .closing) (now winds)) (now rows) n) × (n ≡ segments (traverse (call .head) (now points))) ⌝ }
+    ensures { λ x. ⌜ x ≡ shoreOf (traverse (call .head) (now (points .entry))) (storm (call .closing) (now (winds .entry))) ⌝ }
 {
-    let last = t.count - 1;
-    let shore = r.points[last];
-    100 * (t.initial + r.tide) + 114 * shore.deficit
+    let shore = point_at(winds, n);
+    let head = call.head;
+    let closing = call.closing;
+    segment::shore_base(head.initial + closing.tide, shore.deficit)
 }
 
-// A refusal leaves state and rows as they were.
-pub fn refused(st: State, rows: [Row; 64], refusal: Refusal) -> Taken
-    ensures { λ x. ⌜ x ≡ refusedBy st rows refusal ⌝ }
-{
-    Taken {
-        answer: Answer::Refused(refusal),
-        state: st,
-        rows: rows,
-    }
-}
-
-// An accepted record: the elapsed time, the shore height and the new rows.
-pub fn accepted(
-    seconds: i64,
-    base: i64,
-    st: State,
-    rows: [Row; 64],
-    legs: [Leg; 64],
-    n: usize,
-) -> Taken
-    requires { ⌜ AcceptIn seconds base st legs n ⌝ }
-    ensures { λ x. ⌜ AcceptedBy seconds base st (take n legs) n x ⌝ }
+// An accepted record of n segments: the elapsed time and the shore height.
+pub fn accepted(seconds: i64, base: i64, st: State, work: &[i64], n: usize) -> Taken
+    requires { ⌜ AcceptIn seconds base st (now work) n ⌝ }
+    ensures { λ x. ⌜ x ≡ acceptedBy seconds base st (now (work .entry)) n ⌝ }
 {
     let elapsed = st.elapsed + seconds;
-    let last = legs[n - 1];
-    let s = last.setup;
-    let out = commit_rows(rows, legs, n);
+    let last = leg_at(work, n - 1);
+    let range = last.setup;
     Taken {
         answer: Answer::Accepted {
             elapsed: elapsed,
-            low: s.low + base,
-            high: s.high + base,
+            low: range.low + base,
+            high: range.high + base,
         },
         state: State {
             elapsed: elapsed,
             started: true,
         },
-        rows: out,
     }
 }
 
-// Takes a record of a storm over a traverse, with n rows lent by value and setup places by reference (none for Level B, two for each
-// segment for Level C). Open to callers: every argument may be anything whatever.
+// Takes a record where a traverse may have `most` points, with scratch for as many segments as there can be.
+pub fn take_in(
+    most: usize,
+    call: Call,
+    points: &[i64],
+    winds: &[i64],
+    rows: &mut [i64],
+    setup: &mut [i64],
+    work: &mut [i64],
+) -> Taken
+    requires { ⌜ 5 * mostSegments most (now rows) ≤ length (now work) ⌝ }
+    ensures { λ x. ⌜ left x (now (rows .exit)) (now (setup .exit)) ≡ takeOf (given most call (now (points .entry)) (now (winds .entry)) (now (rows .entry)) (now (setup .entry))) ⌝ }
+{
+    let state = call.state;
+    let closing = call.closing;
+    let places = setup.len();
+    let check = check_all(most, call, points, winds, rows, places);
+    if let Check::Fail(refusal) = check {
+        return Taken {
+            answer: Answer::Refused(refusal),
+            state: state,
+        };
+    }
+    let n = whole_groups(Row::NUMBERS, rows.len());
+    let end = march(call, points, winds, rows, n, work);
+    if let Check::Fail(refusal) = end {
+        return Taken {
+            answer: Answer::Refused(refusal),
+            state: state,
+        };
+    }
+    let base = shore_of(call, points, winds, rows, n);
+    commit_rows(rows, work, n);
+    commit_setup(setup, work, places / 2);
+    accepted(closing.seconds, base, state, work, n)
+}
+
+// The numbers of 8 rows.
+const FEW_ROWS: usize = 24;
+
+// Takes a record of a storm over a traverse: no setup places for Level B, two for each segment for Level C. Open to callers: every argument
+// may be anything whatever. Few segments get little scratch: to clear all of it would take longer than their march.
 pub fn take_record(
-    t: Traverse,
-    r: Record,
-    st: State,
-    rows: [Row; 64],
-    n: usize,
+    call: Call,
+    points: &[i64],
+    winds: &[i64],
+    rows: &mut [i64],
     setup: &mut [i64],
 ) -> Taken
-    ensures { λ x. ⌜ leftBy n x (now (setup .exit)) ≡ takeOf t r st rows n (now (setup .entry)) ⌝ }
+    ensures { λ x. ⌜ left x (now (rows .exit)) (now (setup .exit)) ≡ takeOf (given mostPoints call (now (points .entry)) (now (winds .entry)) (now (rows .entry)) (now (setup .entry))) ⌝ }
 {
-    let places = setup.len();
-    let c = check_all(t, r, st, rows, n, places);
-    if let Check::Fail(refusal) = c {
-        return refused(st, rows, refusal);
+    if rows.len() <= FEW_ROWS {
+        let mut little = [0; 40];
+        return take_in(POINTS_MOST, call, points, winds, rows, setup, &mut little);
     }
-    let m = march(t, r, !st.started, rows);
-    let end = m.check;
-    if let Check::Fail(refusal) = end {
-        return refused(st, rows, refusal);
-    }
-    let legs = m.legs;
-    commit_setup(setup, legs, places / 2);
-    let base = shore_base(t, r);
-    accepted(r.seconds, base, st, rows, legs, n)
+    let mut work = [0; 320];
+    take_in(POINTS_MOST, call, points, winds, rows, setup, &mut work)
 }

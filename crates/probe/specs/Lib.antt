@@ -1,1 +1,2 @@
+-- The root of the definitions of `probe`. Assumes nothing.
 pub mod Ends

@@ -1,1 +1,2 @@
+-- The root of the definitions of `read_files`.
 pub mod Standing

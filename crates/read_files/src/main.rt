@@ -7,17 +7,21 @@ use libc::STDOUT_FILENO;
 use reader::Cursor;
 use reader::Lines;
 use reader::Next;
+use reader::RecordStep;
 use reader::StartStep;
-use reader::Step;
+use records::Closing;
+use records::Head;
 use records::Point;
-use records::Record;
+use records::Refusal;
 use records::Station;
-use records::Traverse;
+use records::groups::point_at;
+use records::groups::station_at;
 ghost use mathlib.Core.Path.{_≡_};
-ghost use Prim.Native.Nat.{_-_, _<_, _≤_};
+ghost use Prim.Native.Nat.{_-_, _*_, _<_, _≤_};
 ghost use lib.ListN.{length};
 ghost use lib.IntN.{natAbs};
-ghost use Rattle.read_files.specs.Standing.{Stands};
+ghost use Rattle.reader.specs.Storm.{recordSize};
+ghost use Rattle.read_files.specs.Standing.{Stands, Lent};
 
 // ---- printing, by blocks of the lent buffer, of which `used` bytes wait
 
@@ -132,63 +136,65 @@ fn put_point(out: &mut [u8], used: usize, x: Point) -> usize
     put(out, b, 10)
 }
 
-fn put_refused(out: &mut [u8], used: usize, number: u64, place: usize) -> usize
+fn put_refused(out: &mut [u8], used: usize, refusal: Refusal) -> usize
     requires { ⌜ (used ≤ length (now out)) × (0 < length (now out)) ⌝ }
     ensures { λ r. ⌜ r ≤ length (now (out .exit)) ⌝ }
 {
+    let place = refusal.place;
     let a = put_text(out, used, b"refused");
-    let b = put_count(out, a, number);
+    let b = put_count(out, a, refusal.number());
     let c = put_count(out, b, place as u64);
     put(out, c, 10)
 }
 
-fn put_traverse(out: &mut [u8], used: usize, t: Traverse) -> usize
+fn put_traverse(out: &mut [u8], used: usize, head: Head, n: usize) -> usize
     requires { ⌜ (used ≤ length (now out)) × (0 < length (now out)) ⌝ }
     ensures { λ r. ⌜ r ≤ length (now (out .exit)) ⌝ }
 {
     let a = put_text(out, used, b"traverse");
-    let b = put_three(out, a, t.latitude, t.friction, t.initial);
-    let c = put_count(out, b, t.count as u64);
+    let b = put_three(out, a, head.latitude, head.friction, head.initial);
+    let c = put_count(out, b, n as u64);
     put(out, c, 10)
 }
 
-fn put_stations(out: &mut [u8], used: usize, stations: [Station; 65], n: usize) -> usize
-    requires { ⌜ (n ≤ 65) × ((used ≤ length (now out)) × (0 < length (now out))) ⌝ }
+fn put_stations(out: &mut [u8], used: usize, points: &[i64], n: usize) -> usize
+    requires { ⌜ (2 * n ≤ length (now points)) × ((used ≤ length (now out)) × (0 < length (now out))) ⌝ }
     ensures { λ r. ⌜ r ≤ length (now (out .exit)) ⌝ }
 {
     let mut u = used;
     let mut i = 0;
     while i < n {
-        let x = stations[i];
+        let x = station_at(points, i);
         u = put_station(out, u, x);
         i += 1;
     }
     u
 }
 
-fn put_points(out: &mut [u8], used: usize, points: [Point; 65], n: usize) -> usize
-    requires { ⌜ (n ≤ 65) × ((used ≤ length (now out)) × (0 < length (now out))) ⌝ }
+fn put_points(out: &mut [u8], used: usize, points: &[i64], n: usize) -> usize
+    requires { ⌜ (3 * n ≤ length (now points)) × ((used ≤ length (now out)) × (0 < length (now out))) ⌝ }
     ensures { λ r. ⌜ r ≤ length (now (out .exit)) ⌝ }
 {
     let mut u = used;
     let mut i = 0;
     while i < n {
-        let x = points[i];
+        let x = point_at(points, i);
         u = put_point(out, u, x);
         i += 1;
     }
     u
 }
 
-fn put_record(out: &mut [u8], used: usize, r: Record, n: usize) -> usize
-    requires { ⌜ (n ≤ 65) × ((used ≤ length (now out)) × (0 < length (now out))) ⌝ }
+// The record of n points that was read into the lent numbers.
+fn put_record(out: &mut [u8], used: usize, numbers: &[i64], n: usize) -> usize
+    requires { ⌜ (recordSize n ≤ length (now numbers)) × ((used ≤ length (now out)) × (0 < length (now out))) ⌝ }
     ensures { λ r. ⌜ r ≤ length (now (out .exit)) ⌝ }
 {
+    let end = Closing::NUMBERS + Point::NUMBERS * n;
     let a = put_text(out, used, b"record");
-    let b = put_two(out, a, r.seconds, r.tide);
+    let b = put_two(out, a, numbers[0], numbers[1]);
     let c = put(out, b, 10);
-    let points = r.points;
-    put_points(out, c, points, n)
+    put_points(out, c, &numbers[2..end], n)
 }
 
 // ---- the storm
@@ -253,11 +259,11 @@ fn start_turn(fd: i32, buf: &mut [u8], x: Reading, out: &mut [u8]) -> Reading
                 used: x.used,
                 on: true,
             },
-            Lines::Refused(number, place) => Reading {
+            Lines::Refused(refusal) => Reading {
                 c: old,
                 have,
                 last: x.last,
-                used: put_refused(out, x.used, number, place),
+                used: put_refused(out, x.used, refusal),
                 on: false,
             },
         },
@@ -265,23 +271,27 @@ fn start_turn(fd: i32, buf: &mut [u8], x: Reading, out: &mut [u8]) -> Reading
 }
 
 // The next record, printed; or more of the file; or the end.
-fn record_turn(fd: i32, buf: &mut [u8], x: Reading, n: usize, out: &mut [u8]) -> Reading
-    requires { ⌜ (n ≤ 65) × (Stands x (length (now buf)) (length (now out)) × ((0 < length (now out)) × (3575 ≤ length (now buf)))) ⌝ }
+fn record_turn(
+    fd: i32,
+    buf: &mut [u8],
+    x: Reading,
+    n: usize,
+    numbers: &mut [i64],
+    out: &mut [u8],
+) -> Reading
+    requires { ⌜ (recordSize n ≤ length (now numbers)) × (Stands x (length (now buf)) (length (now out)) × ((0 < length (now out)) × (3575 ≤ length (now buf)))) ⌝ }
     ensures { λ r. ⌜ Stands r (length (now (buf .exit))) (length (now (out .exit))) ⌝ }
 {
     let c = x.c;
     let have = x.have;
-    let step = c.record_step(&buf[..have], x.last, n);
-    let answer = step.answer;
-    let got = step.got;
-    match answer {
-        Step::More => refilled(fd, buf, x),
-        Step::Answer(next) => match next {
+    match c.record_step(&buf[..have], x.last, n, numbers) {
+        RecordStep::More => refilled(fd, buf, x),
+        RecordStep::Answer(next) => match next {
             Next::Read(d) => Reading {
                 c: d,
                 have,
                 last: x.last,
-                used: put_record(out, x.used, got, n),
+                used: put_record(out, x.used, numbers, n),
                 on: true,
             },
             Next::End => Reading {
@@ -291,11 +301,11 @@ fn record_turn(fd: i32, buf: &mut [u8], x: Reading, n: usize, out: &mut [u8]) ->
                 used: x.used,
                 on: false,
             },
-            Next::Refused(number, place) => Reading {
+            Next::Refused(refusal) => Reading {
                 c,
                 have,
                 last: x.last,
-                used: put_refused(out, x.used, number, place),
+                used: put_refused(out, x.used, refusal),
                 on: false,
             },
         },
@@ -303,20 +313,34 @@ fn record_turn(fd: i32, buf: &mut [u8], x: Reading, n: usize, out: &mut [u8]) ->
 }
 
 // One turn: the names line before any line was read, else the next record.
-fn turn(fd: i32, buf: &mut [u8], x: Reading, n: usize, out: &mut [u8]) -> Reading
-    requires { ⌜ (n ≤ 65) × (Stands x (length (now buf)) (length (now out)) × ((0 < length (now out)) × (3575 ≤ length (now buf)))) ⌝ }
+fn turn(
+    fd: i32,
+    buf: &mut [u8],
+    x: Reading,
+    n: usize,
+    numbers: &mut [i64],
+    out: &mut [u8],
+) -> Reading
+    requires { ⌜ (recordSize n ≤ length (now numbers)) × (Stands x (length (now buf)) (length (now out)) × ((0 < length (now out)) × (3575 ≤ length (now buf)))) ⌝ }
     ensures { λ r. ⌜ Stands r (length (now (buf .exit))) (length (now (out .exit))) ⌝ }
 {
     let c = x.c;
     if c.line == 0 {
         return start_turn(fd, buf, x, out);
     }
-    record_turn(fd, buf, x, n, out)
+    record_turn(fd, buf, x, n, numbers, out)
 }
 
 // Prints record after record, to the end or to the refusal, and answers how many bytes wait. The turns are counted down here too.
-fn print_storm(fd: i32, buf: &mut [u8], n: usize, out: &mut [u8], used: usize) -> usize
-    requires { ⌜ (n ≤ 65) × ((used ≤ length (now out)) × ((0 < length (now out)) × (3575 ≤ length (now buf)))) ⌝ }
+fn print_storm(
+    fd: i32,
+    buf: &mut [u8],
+    n: usize,
+    numbers: &mut [i64],
+    out: &mut [u8],
+    used: usize,
+) -> usize
+    requires { ⌜ (recordSize n ≤ length (now numbers)) × ((used ≤ length (now out)) × ((0 < length (now out)) × (3575 ≤ length (now buf)))) ⌝ }
     ensures { λ r. ⌜ r ≤ length (now (out .exit)) ⌝ }
 {
     let mut turns: u64 = 0x100_0000_0000_0000;
@@ -329,7 +353,7 @@ fn print_storm(fd: i32, buf: &mut [u8], n: usize, out: &mut [u8], used: usize) -
     };
     while turns > 0 {
         turns -= 1;
-        x = turn(fd, buf, x, n, out);
+        x = turn(fd, buf, x, n, numbers, out);
         if !x.on {
             return x.used;
         }
@@ -339,48 +363,51 @@ fn print_storm(fd: i32, buf: &mut [u8], n: usize, out: &mut [u8], used: usize) -
 
 // ---- the program
 
-// Prints the traverse and then the storm, or check 5's refusal.
-fn print_run(buf: &mut [u8], t: Traverse, out: &mut [u8]) -> usize
-    requires { ⌜ (0 < length (now out)) × (3575 ≤ length (now buf)) ⌝ }
+// Prints the traverse of n points, and then the storm.
+fn print_run(
+    buf: &mut [u8],
+    head: Head,
+    points: &[i64],
+    n: usize,
+    numbers: &mut [i64],
+    out: &mut [u8],
+) -> usize
+    requires { ⌜ (2 * n ≤ length (now points)) × ((recordSize n ≤ length (now numbers)) × ((0 < length (now out)) × (3575 ≤ length (now buf)))) ⌝ }
     ensures { λ r. ⌜ r ≤ length (now (out .exit)) ⌝ }
 {
-    let n = t.count;
-    let stations = t.stations;
-    if n < 2 {
-        return put_refused(out, 0, 5, n);
-    }
-    if n > 65 {
-        return put_refused(out, 0, 5, n);
-    }
-    let a = put_traverse(out, 0, t);
-    let b = put_stations(out, a, stations, n);
+    let a = put_traverse(out, 0, head, n);
+    let b = put_stations(out, a, points, n);
     let fd = os::open_read(b"storm.txt");
-    let c = print_storm(fd, buf, n, out, b);
+    let c = print_storm(fd, buf, n, numbers, out, b);
     libc::close(fd);
     c
 }
 
-fn run(buf: &mut [u8], out: &mut [u8])
-    requires { ⌜ (0 < length (now out)) × (3575 ≤ length (now buf)) ⌝ }
+fn run(buf: &mut [u8], points: &mut [i64], numbers: &mut [i64], out: &mut [u8])
+    requires { ⌜ Lent (length (now buf)) (length (now points)) (length (now numbers)) (length (now out)) ⌝ }
 {
-    let load = files::read_traverse(buf);
-    let answer = load.answer;
-    let t = load.traverse;
+    let file = files::read_traverse(buf, points);
+    let answer = file.answer;
+    let head = file.head;
+    let n = file.count;
     match answer {
         Loaded::Failed => {}
-        Loaded::Refused(number, place) => {
-            let a = put_refused(out, 0, number, place);
+        Loaded::Refused(refusal) => {
+            let a = put_refused(out, 0, refusal);
             files::flush(out, a);
         }
         Loaded::Read => {
-            let a = print_run(buf, t, out);
+            let a = print_run(buf, head, points, n, numbers, out);
             files::flush(out, a);
         }
     }
 }
 
+// Room for 65 points, and for a record of as many.
 fn main() {
     let mut buf = io::large_buffer();
     let mut out = io::large_buffer();
-    run(&mut buf, &mut out);
+    let mut points = [0i64; 130];
+    let mut numbers = [0i64; 197];
+    run(&mut buf, &mut points, &mut numbers, &mut out);
 }

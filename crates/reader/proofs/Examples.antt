@@ -1,18 +1,24 @@
--- Document 01's "Files" and checks 1 to 4 run on small texts: the definitions compute each answer. Assumes nothing.
+-- Document 01's "Files" and checks 1 to 5 run on small texts, and what calls leave in lent numbers: the definitions compute each answer. Assumes nothing.
 use mathlib.Core.Path.{_≡_, refl}
-use mathlib.Core.Bool.{Bool, true, false}
+use mathlib.Core.Bool.{Bool, true, false, cond}
 use mathlib.Core.List.{List, [], _∷_, _++_}
 use Prim.Native.Nat.{ℕ}
 use lib.IntN.{ℤ, pos, negsuc}
-use lib.ListN.{take}
-use Rattle.records.specs.declared.Point.{Point}
-use Rattle.records.specs.declared.Record.{Record}
-use Rattle.records.specs.declared.Station.{Station}
-use Rattle.records.specs.declared.Traverse.{Traverse}
-use Rattle.reader.specs.Text.{pick, more, digitAt, digits, worth, goodOf, signedOf, startAt, goodAt, valueAt, pastAt, closeOf, eqZ}
-use Rattle.reader.specs.Lines.{Outcome, read, refused, valuesAt, sameAt, linesAt, spells, namesAt}
-use Rattle.reader.specs.Storm.{stormNames, stormStart, noRows, counts, nextAt, recordOf, pointsOf, Stop, over, stopped, paused, unread, stormLeft, stormRest, stormOf}
-use Rattle.reader.specs.Traverse.{headNames, pointNames, noTraverse, start, withValues, withPoint, keptAt, lineAt, endAt, leftAt, restAt, traverseOf}
+use lib.ListN.{replicate}
+use Rattle.records.specs.declared.Refusal.{Refusal}
+use Rattle.records.specs.Refusals.{numberOf}
+use Rattle.records.specs.Groups.{wholes, stationAt, putStation, pointCount}
+use Rattle.records.specs.Limits.{countOk}
+use Rattle.records.specs.Shapes.{Traverse, Record, count}
+use Rattle.reader.specs.Text.{more, digitAt, digits, worth, goodOf, signedValue, startAt, goodAt, valueAt, pastAt, closeOf, eqZ}
+use Rattle.reader.specs.Lines.{Outcome, read, refused, Leaves, repeated, keptWith, sameWith, valuesAt, linesAt, spells, namesAt}
+use Rattle.reader.specs.Storm.{stormNames, stormStart, nextAt, keptAt, nextOf, tooFew, nextLeft, recordOf, Stop, ended, stopped, paused, unread, recordsBy, stormRest, stormOf}
+use Rattle.reader.specs.Traverse.{headNames, pointNames, start, withValues, storedAt, withPoint, lineAt, countedBy, endAt, restBy, restAt, traverseRead, traverseLeft, traverseOf}
+use Rattle.reader.specs.declared.storm.Next.{Next}
+use Rattle.reader.specs.declared.storm.Next.the-variants as next
+use Rattle.reader.specs.declared.traverse.TraverseRead.{TraverseRead}
+use Rattle.reader.specs.declared.traverse.Whole.{Whole}
+use Rattle.reader.specs.declared.traverse.Whole.the-variants as whole
 
 -- ---- lines
 
@@ -41,8 +47,8 @@ abbrev zero-led : List ℕ
 zero-led = 48 ∷ 32 ∷ 48 ∷ 53 ∷ 10 ∷ []
 
 -- `0 -0`
-abbrev minus-nought : List ℕ
-minus-nought = 48 ∷ 32 ∷ 45 ∷ 48 ∷ 10 ∷ []
+abbrev minus-zero : List ℕ
+minus-zero = 48 ∷ 32 ∷ 45 ∷ 48 ∷ 10 ∷ []
 
 -- `0`
 abbrev lone : List ℕ
@@ -109,25 +115,20 @@ joined (l ∷ ls) = l ++ joined ls
 abbrev refusal : ℕ → ℕ → List ℤ
 refusal n p = pos n ∷ pos p ∷ []
 
-abbrev stationNumbers : List Station → List ℤ
-stationNumbers [] = []
-stationNumbers (x ∷ xs) = x .distance ∷ x .depth ∷ stationNumbers xs
-
-abbrev pointNumbers : List Point → List ℤ
-pointNumbers [] = []
-pointNumbers (x ∷ xs) = x .wind ∷ x .angle ∷ x .deficit ∷ pointNumbers xs
+abbrev refusalNumbers : Refusal → List ℤ
+refusalNumbers r = refusal (numberOf (r .kind)) (r .place)
 
 abbrev traverseNumbers : Outcome Traverse → List ℤ
-traverseNumbers (read t at line) = t .latitude ∷ t .friction ∷ t .initial ∷ pos (t .count) ∷ stationNumbers (take (t .count) (t .stations))
-traverseNumbers (refused n p) = refusal n p
+traverseNumbers (read t at line) = t .head .latitude ∷ t .head .friction ∷ t .head .initial ∷ pos (count t) ∷ t .points
+traverseNumbers (refused r) = refusalNumbers r
 
 abbrev recordNumbers : List Record → List ℤ
 recordNumbers [] = []
-recordNumbers (r ∷ rs) = r .seconds ∷ r .tide ∷ pos (r .count) ∷ (pointNumbers (take (r .count) (r .points)) ++ recordNumbers rs)
+recordNumbers (r ∷ rs) = r .closing .seconds ∷ r .closing .tide ∷ pos (pointCount (r .points)) ∷ (r .points ++ recordNumbers rs)
 
 abbrev stormNumbers : List Record → Stop → List ℤ
-stormNumbers rs over = recordNumbers rs
-stormNumbers rs (stopped n p) = refusal n p
+stormNumbers rs ended = recordNumbers rs
+stormNumbers rs (stopped r) = refusalNumbers r
 stormNumbers rs (paused at line) = []
 stormNumbers rs unread = []
 
@@ -135,12 +136,12 @@ abbrev same : List ℤ → List ℤ → Bool
 same [] [] = true
 same [] (b ∷ ys) = false
 same (a ∷ xs) [] = false
-same (a ∷ xs) (b ∷ ys) = pick (eqZ a b) (same xs ys) false
+same (a ∷ xs) (b ∷ ys) = cond (eqZ a b) (same xs ys) false
 
 -- whether every text of a list gives what it is said to give
 abbrev hold : (List ℕ → List ℤ) → List Example → Bool
 hold f [] = true
-hold f (e ∷ es) = pick (same (f (joined (e .lines))) (e .gives)) (hold f es) false
+hold f (e ∷ es) = cond (same (f (joined (e .lines))) (e .gives)) (hold f es) false
 
 abbrev traverses : List Example
 traverses =
@@ -163,7 +164,9 @@ traverses =
     -- an empty line
     record { lines = headNames ∷ settings ∷ pointNames ∷ far ∷ empty ∷ []; gives = refusal 2 5 } ∷
     -- two faulty lines: the earlier
-    record { lines = headNames ∷ settings ∷ pointNames ∷ far ∷ minus-nought ∷ lone ∷ []; gives = refusal 2 5 } ∷
+    record { lines = headNames ∷ settings ∷ pointNames ∷ far ∷ minus-zero ∷ lone ∷ []; gives = refusal 2 5 } ∷
+    -- one point
+    record { lines = headNames ∷ settings ∷ pointNames ∷ far ∷ []; gives = refusal 5 1 } ∷
     -- two points are read
     record { lines = headNames ∷ settings ∷ pointNames ∷ far ∷ shore ∷ []; gives = pos 300 ∷ pos 25 ∷ negsuc 4 ∷ pos 2 ∷ pos 10 ∷ pos 5 ∷ pos 0 ∷ pos 7 ∷ [] } ∷ []
 
@@ -195,10 +198,73 @@ storms =
     -- one record is read
     record { lines = stormNames ∷ calm ∷ gale ∷ []; gives = pos 0 ∷ pos 1 ∷ pos 2 ∷ pos 2 ∷ pos 3 ∷ pos 4 ∷ negsuc 5 ∷ pos 7 ∷ pos 999999999 ∷ [] } ∷ []
 
+-- ---- what a call leaves in the numbers that it was lent, here nines
+
+pub record LentExample : Type 0 where
+  pub lines : List (List ℕ)
+  pub lent : ℕ
+  pub gives : List ℤ
+
+abbrev nines : ℕ → List ℤ
+nines n = replicate n (pos 9)
+
+abbrev holdLent : (List ℕ → List ℤ → List ℤ) → List LentExample → Bool
+holdLent f [] = true
+holdLent f (e ∷ es) = cond (same (f (joined (e .lines)) (nines (e .lent))) (e .gives)) (holdLent f es) false
+
+-- the refusal, if there is one, and then the numbers
+abbrev nextNumbers : Leaves Next → List ℤ
+nextNumbers x = by (x .answer) ++ x .numbers
+  where
+    by : Next → List ℤ
+    by (next.Read c) = []
+    by next.End = []
+    by (next.Refused r) = refusalNumbers r
+
+abbrev wholeNumbers : Leaves TraverseRead → List ℤ
+wholeNumbers x = by (x .answer .answer) ++ x .numbers
+  where
+    by : Whole → List ℤ
+    by whole.Read = []
+    by (whole.Refused r) = refusalNumbers r
+
+-- the first record of two points, past a names line of one byte
+abbrev records-lent : List LentExample
+records-lent =
+    -- the record, and the spare number as lent
+    record { lines = empty ∷ calm ∷ gale ∷ []; lent = 9; gives = pos 0 ∷ pos 1 ∷ pos 2 ∷ pos 3 ∷ pos 4 ∷ negsuc 5 ∷ pos 7 ∷ pos 999999999 ∷ pos 9 ∷ [] } ∷
+    -- another tide is found at the end of its line
+    record { lines = empty ∷ calm ∷ tide ∷ []; lent = 9; gives = pos 4 ∷ pos 3 ∷ pos 0 ∷ pos 1 ∷ pos 2 ∷ pos 3 ∷ pos 4 ∷ pos 2 ∷ pos 3 ∷ pos 4 ∷ pos 9 ∷ [] } ∷
+    -- a value that is none is left where it stands
+    record { lines = empty ∷ calm ∷ tide-plus ∷ []; lent = 9; gives = pos 2 ∷ pos 3 ∷ pos 0 ∷ pos 1 ∷ pos 2 ∷ pos 3 ∷ pos 4 ∷ pos 2 ∷ pos 3 ∷ pos 9 ∷ pos 9 ∷ [] } ∷
+    -- too few numbers for two points
+    record { lines = empty ∷ calm ∷ gale ∷ []; lent = 7; gives = pos 8 ∷ pos 0 ∷ nines 7 } ∷ []
+
+abbrev traverses-lent : List LentExample
+traverses-lent =
+    -- two points, and a spare place
+    record { lines = headNames ∷ settings ∷ pointNames ∷ far ∷ shore ∷ []; lent = 6; gives = pos 10 ∷ pos 5 ∷ pos 0 ∷ pos 7 ∷ pos 9 ∷ pos 9 ∷ [] } ∷
+    -- room for the first of them
+    record { lines = headNames ∷ settings ∷ pointNames ∷ far ∷ shore ∷ []; lent = 2; gives = pos 8 ∷ pos 0 ∷ pos 10 ∷ pos 5 ∷ [] } ∷
+    -- an odd number of numbers has no room
+    record { lines = headNames ∷ settings ∷ pointNames ∷ far ∷ shore ∷ []; lent = 5; gives = pos 8 ∷ pos 0 ∷ nines 5 } ∷
+    -- too few points come before too little room
+    record { lines = headNames ∷ settings ∷ pointNames ∷ far ∷ []; lent = 0; gives = refusal 5 1 } ∷
+    -- a line that is refused stores nothing, the one before it did
+    record { lines = headNames ∷ settings ∷ pointNames ∷ far ∷ zero-led ∷ []; lent = 4; gives = pos 2 ∷ pos 5 ∷ pos 10 ∷ pos 5 ∷ pos 9 ∷ pos 9 ∷ [] } ∷ []
+
 pub traverse-examples : hold (λ s. traverseNumbers (traverseOf s)) traverses ≡ true
-unfolding traverseOf restAt leftAt lineAt endAt start noTraverse withValues withPoint keptAt linesAt valuesAt sameAt namesAt spells goodAt goodOf valueAt signedOf worth pastAt startAt digits digitAt closeOf more
+unfolding traverseOf restAt restBy lineAt endAt countedBy countOk start withValues withPoint storedAt putStation stationAt wholes linesAt valuesAt repeated keptWith sameWith namesAt spells goodAt goodOf valueAt signedValue worth pastAt startAt digits digitAt closeOf more
 traverse-examples = refl
 
 pub storm-examples : hold (λ s. stormNumbers (stormOf s 2 .records) (stormOf s 2 .stop)) storms ≡ true
-unfolding stormOf stormRest stormLeft stormStart nextAt counts recordOf pointsOf noRows linesAt valuesAt sameAt namesAt spells goodAt goodOf valueAt signedOf worth pastAt startAt digits digitAt closeOf more
+unfolding stormOf stormRest recordsBy stormStart nextAt countOk recordOf wholes linesAt valuesAt repeated keptWith sameWith namesAt spells goodAt goodOf valueAt signedValue worth pastAt startAt digits digitAt closeOf more
 storm-examples = refl
+
+pub record-lent-examples : holdLent (λ s lent. nextNumbers (nextLeft s 2 1 1 lent)) records-lent ≡ true
+unfolding nextLeft tooFew nextOf nextAt keptAt countOk recordOf linesAt valuesAt repeated keptWith sameWith goodAt goodOf valueAt signedValue worth pastAt startAt digits digitAt closeOf more
+record-lent-examples = refl
+
+pub traverse-lent-examples : holdLent (λ s lent. wholeNumbers (traverseLeft s lent)) traverses-lent ≡ true
+unfolding traverseLeft traverseRead restAt restBy lineAt endAt countedBy countOk start withValues withPoint storedAt putStation stationAt wholes linesAt valuesAt repeated keptWith sameWith namesAt spells goodAt goodOf valueAt signedValue worth pastAt startAt digits digitAt closeOf more
+traverse-lent-examples = refl

@@ -1,4 +1,4 @@
--- What one byte of a line of names does to what is left of it.
+-- What one byte of a line of names does to what is yet to come of it. Assumes nothing.
 use mathlib.Core.Path.{_≡_}
 use mathlib.Core.Bool.{true, false}
 use mathlib.Core.List.{List}
@@ -7,6 +7,8 @@ use native.Mathlib.Numerals.{add-one}
 use lib.ListN.{length, getD, drop, drop-of-length-le}
 use lib.Seq.{drop-cons}
 use borrow.Author.Tests.{eq-eqb, ne-eqb, lt-ltb, le-ltb}
+use Rattle.records.specs.declared.Kind.the-variants.{Names}
+use Rattle.records.specs.Refusals.{refusal}
 use Rattle.reader.specs.Text.{more, byte}
 use Rattle.reader.specs.Lines.{spells, namesAt}
 use Rattle.reader.specs.declared.Lines.the-variants.{Read, Refused}
@@ -30,7 +32,7 @@ unfolding spells
 spells-done s want at i h = rw (drop-of-length-le want h)
 
 module _ (s want : List ℕ) (at line l : ℕ) (t : l ≡ more line) where
-  pub names-no : spells s at want ≡ false → Refused 1 l ≡ namesAt s want at line
+  pub names-no : spells s at want ≡ false → Refused (refusal Names l) ≡ namesAt s want at line
   unfolding namesAt
   names-no e = rw (e, t)
 

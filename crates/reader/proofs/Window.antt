@@ -1,18 +1,22 @@
--- What is read in a window is what is read of the text, where the window has the bytes that so many lines can take: eleven for each value.
+-- What is read in a window is what is read of the text, where the window has the bytes that so many lines can take: eleven for each value. Assumes nothing.
 use mathlib.Core.Path.{_≡_, refl, sym, _∙_, subst}
-use mathlib.Core.Bool.{Bool, true, false}
+use mathlib.Core.Bool.{Bool, true, false, cond, _&&_}
 use mathlib.Core.List.{List, [], _∷_}
 use Prim.Native.Nat.{ℕ, zero, suc, _+_, _-_, _*_, _<_, _≤_}
 use native.Mathlib.Omega.{arith}
 use native.Mathlib.Nat.{add-assoc, suc-mul}
-use lib.ListN.{length, set, take, drop, length-take, length-drop, List·getD-eq-default}
+use lib.ListN.{length, drop, length-take, length-drop, List·getD-eq-default}
 use lib.Seq.{getD-take, getD-drop}
 use lib.Dec.{ltb, leb, eqb}
 use lib.IntN.{ℤ}
 use borrow.Author.Tests.{lt-ltb, le-ltb, ltb-true, ltb-false, leb-true}
-use Rattle.reader.specs.Text.{pick, more, byte, digitAt, digits, worth, negativeAt, startAt, goodAt, valueAt, pastAt, closeOf}
-use Rattle.reader.specs.Lines.{Outcome, read, refused, Line, full, bad, valuesAt, sameAt, after, linesAt, spells, namesAt, found, holds}
+use Rattle.reader.specs.Text.{more, byte, digitAt, digits, worth, negativeAt, startAt, goodAt, valueAt, pastAt, closeOf}
+use Rattle.records.specs.declared.Kind.the-variants.{Names, Ended}
+use Rattle.records.specs.Refusals.{refusal}
+use Rattle.records.proofs.LimitLaws.{and-left}
+use Rattle.reader.specs.Lines.{found, repeated, keptWith, sameWith, Line, full, bad, closedAt, valuesAt, LinesRead, linesRead, after, linesAt, spells, namesAt}
 use Rattle.reader.specs.Window.{Shows, moved, windowOf, lastOf, fromOf, Cut}
+use Rattle.reader.specs.declared.Lines.{Lines}
 use Rattle.reader.specs.declared.Lines.the-variants.{Read, Refused}
 use Rattle.reader.proofs.Laws.{too-long}
 
@@ -53,7 +57,7 @@ unfolding digits
 digits-few t zero j = omega arith
 digits-few t (suc n) j = go (ltb (digitAt t j) 10) (digits-few t n (j + 1))
   where
-    go : (b : Bool) → digits t n (j + 1) ≤ n → pick b (suc (digits t n (j + 1))) 0 ≤ suc n
+    go : (b : Bool) → digits t n (j + 1) ≤ n → cond b (suc (digits t n (j + 1))) 0 ≤ suc n
     go true h = omega arith
     go false h = omega arith
 
@@ -61,7 +65,7 @@ start-few : (t : List ℕ) (j : ℕ) → startAt t j ≤ j + 1
 unfolding startAt
 start-few t j = go (negativeAt t j)
   where
-    go : (b : Bool) → pick b (j + 1) j ≤ j + 1
+    go : (b : Bool) → cond b (j + 1) j ≤ j + 1
     go true = omega arith
     go false = omega arith
 
@@ -75,32 +79,38 @@ past-few t j g = go (ltb 9 (digits t 10 (startAt t j))) refl
 
 -- how far a line is read
 abbrev Within : ℕ → Line → Type 0
-Within b (full a out) = a ≤ b
-Within b bad = Unit {0}
+Within b (full a kept same) = a ≤ b
+Within b (bad kept) = Unit {0}
 
-values-few : (t : List ℕ) (n p j : ℕ) (out : List ℤ) → Within (j + n * 11) (valuesAt t n p j out)
-unfolding valuesAt
-values-few t zero p j out = omega arith
-values-few t (suc n) p j out = go (goodAt t j) refl (eqb (byte t (pastAt t j)) (closeOf n)) (values-few t n (p + 1) (pastAt t j + 1) (set out p (valueAt t j)))
-  where
-    wider : (b c : ℕ) (l : Line) → b ≤ c → Within b l → Within c l
-    wider b c (full a o) h r = omega arith
-    wider b c bad h r = tt
+module _ (t : List ℕ) (shared i : ℕ) where
+  values-few : (n k j : ℕ) (kept : List ℤ) (same : Bool) → Within (j + n * 11) (valuesAt t shared i n k j kept same)
+  unfolding valuesAt
+  values-few zero k j kept same = omega arith
+  values-few (suc n) k j kept same = go (closedAt t n j) refl _ (values-few n (k + 1) (pastAt t j + 1) (keptWith (repeated shared i k) (valueAt t j) kept) (sameWith (repeated shared i k) k (valueAt t j) kept same))
+    where
+      wider : (b c : ℕ) (l : Line) → b ≤ c → Within b l → Within c l
+      wider b c (full a o e) h r = omega arith
+      wider b c (bad o) h r = tt
 
-    go : (b : Bool) → goodAt t j ≡ b → (q : Bool) → Within (pastAt t j + 1 + n * 11) (valuesAt t n (p + 1) (pastAt t j + 1) (set out p (valueAt t j)))
-        → Within (j + suc n * 11) (pick b (pick q (valuesAt t n (p + 1) (pastAt t j + 1) (set out p (valueAt t j))) bad) bad)
-    go true g true r = wider _ _ (valuesAt t n (p + 1) (pastAt t j + 1) (set out p (valueAt t j))) (omega (arith, past-few t j g)) r
-    go true g false r = tt
-    go false g q r = tt
+      go : (b : Bool) → closedAt t n j ≡ b → (l : Line) → Within (pastAt t j + 1 + n * 11) l → Within (j + suc n * 11) (cond b l (bad kept))
+      go true g l r = wider _ _ l (omega (arith, past-few t j (and-left (goodAt t j) _ g))) r
+      go false g l r = tt
 
 -- what is read at a place of the window, said of the text
 abbrev movedLine : ℕ → Line → Line
-movedLine o (full a out) = full (o + a) out
-movedLine o bad = bad
+movedLine o (full a kept same) = full (o + a) kept same
+movedLine o (bad kept) = bad kept
 
-both : {A : Type 0} (o : ℕ) {x : Outcome A} (y : Outcome A) (b : Bool) (n line : ℕ) → x ≡ moved o y → pick b x (refused n line) ≡ moved o (pick b y (refused n line))
-both o y true n line e = e
-both o y false n line e = refl
+abbrev pub movedAnswer : ℕ → Lines → Lines
+movedAnswer o (Read c) = Read (record { at = o + c .at; line = c .line })
+movedAnswer o (Refused q) = Refused q
+
+abbrev pub movedLines : ℕ → LinesRead → LinesRead
+movedLines o x = linesRead (movedAnswer o (x .answer)) (x .kept)
+
+pub found-moved : {A : Type 0} (o : ℕ) (r : Lines) (x : A) → found (movedAnswer o r) x ≡ moved o (found r x)
+found-moved o (Read c) x = refl
+found-moved o (Refused q) x = refl
 
 module _ {s t : List ℕ} {o L : ℕ} (w : Window s t o L) where
   digit-local : (j : ℕ) → j < L → digitAt s (o + j) ≡ digitAt t j
@@ -125,7 +135,7 @@ module _ {s t : List ℕ} {o L : ℕ} (w : Window s t o L) where
   unfolding startAt
   start-local j h = rw (w .bytes j h) (go (negativeAt t j))
     where
-      go : (b : Bool) → pick b (o + j + 1) (o + j) ≡ o + pick b (j + 1) j
+      go : (b : Bool) → cond b (o + j + 1) (o + j) ≡ o + cond b (j + 1) j
       go true = omega arith
       go false = refl
 
@@ -149,44 +159,49 @@ module _ {s t : List ℕ} {o L : ℕ} (w : Window s t o L) where
         let a : startAt t j + 10 ≤ L = omega (arith, start-few t j) in
         rw (start-local j (omega arith), digits-local 10 (startAt t j) a, add-assoc)
 
+  closed-local : (n j : ℕ) → j + 11 ≤ L → closedAt s n (o + j) ≡ closedAt t n j
+  closed-local n j h = rw (good-local j h, past-local j h) (go (goodAt t j) refl)
+    where
+      go : (b : Bool) → goodAt t j ≡ b → (b && eqb (byte s (o + pastAt t j)) (closeOf n)) ≡ (b && eqb (byte t (pastAt t j)) (closeOf n))
+      go true g = rw (w .bytes (pastAt t j) (omega (arith, past-few t j g)))
+      go false g = refl
+
   -- one value, from what holds of those after it
-  value-step : (n p j : ℕ) (out : List ℤ) → j + suc n * 11 ≤ L
-      → ((a : ℕ) (x : List ℤ) → a + n * 11 ≤ L → valuesAt s n (p + 1) (o + a) x ≡ movedLine o (valuesAt t n (p + 1) a x))
-      → (b : Bool) → goodAt t j ≡ b → valuesAt s (suc n) p (o + j) out ≡ movedLine o (valuesAt t (suc n) p j out)
+  value-step : (shared i n k j : ℕ) (kept : List ℤ) (same : Bool) → j + suc n * 11 ≤ L
+      → ((a : ℕ) (x : List ℤ) (e : Bool) → a + n * 11 ≤ L → valuesAt s shared i n (k + 1) (o + a) x e ≡ movedLine o (valuesAt t shared i n (k + 1) a x e))
+      → (b : Bool) → closedAt t n j ≡ b → valuesAt s shared i (suc n) k (o + j) kept same ≡ movedLine o (valuesAt t shared i (suc n) k j kept same)
   unfolding valuesAt
-  value-step n p j out h r false g = rw (good-local j (omega arith), g)
-  value-step n p j out h r true g =
-      let f = past-few t j g in
-      rw (good-local j (omega arith), g, past-local j (omega arith), w .bytes (pastAt t j) (omega arith), value-local j (omega arith), add-assoc o (pastAt t j) 1)
-      (go _ (eqb (byte t (pastAt t j)) (closeOf n)) (r (pastAt t j + 1) (set out p (valueAt t j)) (omega arith)))
-    where
-      go : {x : Line} (y : Line) (q : Bool) → x ≡ movedLine o y → pick q x bad ≡ movedLine o (pick q y bad)
-      go y true e = e
-      go y false e = refl
+  value-step shared i n k j kept same h r false g = rw (closed-local n j (omega arith), g)
+  value-step shared i n k j kept same h r true g =
+      let f = past-few t j (and-left (goodAt t j) _ g) in
+      rw (closed-local n j (omega arith), g, past-local j (omega arith), value-local j (omega arith), add-assoc o (pastAt t j) 1)
+      (r (pastAt t j + 1) (keptWith (repeated shared i k) (valueAt t j) kept) (sameWith (repeated shared i k) k (valueAt t j) kept same) (omega arith))
 
-  values-local : (n p j : ℕ) (out : List ℤ) → j + n * 11 ≤ L → valuesAt s n p (o + j) out ≡ movedLine o (valuesAt t n p j out)
-  values-local zero p j out h = unfold valuesAt in refl
-  values-local (suc n) p j out h = value-step n p j out h (λ a x q. values-local n (p + 1) a x q) (goodAt t j) refl
+  values-local : (shared i n k j : ℕ) (kept : List ℤ) (same : Bool) → j + n * 11 ≤ L → valuesAt s shared i n k (o + j) kept same ≡ movedLine o (valuesAt t shared i n k j kept same)
+  values-local shared i zero k j kept same h = unfold valuesAt in refl
+  values-local shared i (suc n) k j kept same h = value-step shared i n k j kept same h (λ a x e q. values-local shared i n (k + 1) a x e q) (closedAt t n j) refl
 
-  line-step : (width : ℕ) (repeats : Bool) (n i j line : ℕ) (out : List ℤ) → 0 < width → j + suc n * (width * 11) ≤ L
-      → ((a : ℕ) (p : List ℤ) → a + n * (width * 11) ≤ L → linesAt s width repeats n (i + 1) (o + a) (more line) p ≡ moved o (linesAt t width repeats n (i + 1) a (more line) p))
-      → linesAt s width repeats (suc n) i (o + j) line out ≡ moved o (linesAt t width repeats (suc n) i j line out)
+  line-step : (width shared n i j line : ℕ) (kept : List ℤ) → 0 < width → j + suc n * (width * 11) ≤ L
+      → ((a : ℕ) (p : List ℤ) → a + n * (width * 11) ≤ L → linesAt s width shared n (i + 1) (o + a) (more line) p ≡ movedLines o (linesAt t width shared n (i + 1) a (more line) p))
+      → linesAt s width shared (suc n) i (o + j) line kept ≡ movedLines o (linesAt t width shared (suc n) i j line kept)
   unfolding linesAt
-  line-step width repeats n i j line out z h r =
+  line-step width shared n i j line kept z h r =
       let k : j + n * (width * 11) + width * 11 ≤ L = omega (arith, suc-mul n (width * 11)) in
-      rw (w .ends j (omega arith), values-local width (i * 5) j out (omega arith))
-      (both o _ (ltb j (length t)) 3 line (line-by k (valuesAt t width (i * 5) j out) (values-few t width (i * 5) j out)))
+      rw (w .ends j (omega arith), values-local shared i width 0 j kept true (omega arith))
+      (by (ltb j (length t)) (valuesAt t shared i width 0 j kept true) k (values-few t shared i width 0 j kept true))
     where
-      line-by : j + n * (width * 11) + width * 11 ≤ L → (l : Line) → Within (j + width * 11) l
-          → after (movedLine o l) (more line) (λ a p. pick (sameAt repeats i p) (linesAt s width repeats n (i + 1) a (more line) p) (refused 4 (more line)))
-          ≡ moved o (after l (more line) (λ a p. pick (sameAt repeats i p) (linesAt t width repeats n (i + 1) a (more line) p) (refused 4 (more line))))
-      line-by k (full a p) f = both o (linesAt t width repeats n (i + 1) a (more line) p) (sameAt repeats i p) 4 (more line) (r a p (omega arith))
-      line-by k bad f = refl
+      by : (b : Bool) (l : Line) → j + n * (width * 11) + width * 11 ≤ L → Within (j + width * 11) l
+          → cond b (after (movedLine o l) (more line) (λ a p. linesAt s width shared n (i + 1) a (more line) p)) (linesRead (Refused (refusal Ended line)) kept)
+          ≡ movedLines o (cond b (after l (more line) (λ a p. linesAt t width shared n (i + 1) a (more line) p)) (linesRead (Refused (refusal Ended line)) kept))
+      by true (full a p true) k f = r a p (omega arith)
+      by true (full a p false) k f = refl
+      by true (bad p) k f = refl
+      by false l k f = refl
 
-  pub lines-local : (width : ℕ) (repeats : Bool) (n i j line : ℕ) (out : List ℤ) → 0 < width → j + n * (width * 11) ≤ L
-      → linesAt s width repeats n i (o + j) line out ≡ moved o (linesAt t width repeats n i j line out)
-  lines-local width repeats zero i j line out z h = unfold linesAt in refl
-  lines-local width repeats (suc n) i j line out z h = line-step width repeats n i j line out z h (λ a p q. lines-local width repeats n (i + 1) a (more line) p z q)
+  pub lines-local : (width shared n i j line : ℕ) (kept : List ℤ) → 0 < width → j + n * (width * 11) ≤ L
+      → linesAt s width shared n i (o + j) line kept ≡ movedLines o (linesAt t width shared n i j line kept)
+  lines-local width shared zero i j line kept z h = unfold linesAt in refl
+  lines-local width shared (suc n) i j line kept z h = line-step width shared n i j line kept z h (λ a p q. lines-local width shared n (i + 1) a (more line) p z q)
 
   spells-local : (want : List ℕ) (j : ℕ) → j + length want ≤ L → spells s (o + j) want ≡ spells t j want
   unfolding spells
@@ -195,12 +210,12 @@ module _ {s t : List ℕ} {o L : ℕ} (w : Window s t o L) where
       let r : spells s (o + (j + 1)) want ≡ spells t (j + 1) want = spells-local want (j + 1) (omega arith) in
       rw (w .ends j (omega arith), w .bytes j (omega arith), add-assoc o j 1, r)
 
-  pub names-local : {A : Type 0} (want : List ℕ) (x : A) (j line : ℕ) → j + length want ≤ L → found (namesAt s want (o + j) line) x ≡ moved o (found (namesAt t want j line) x)
+  pub names-local : (want : List ℕ) (j line : ℕ) → j + length want ≤ L → namesAt s want (o + j) line ≡ movedAnswer o (namesAt t want j line)
   unfolding namesAt
-  names-local {A} want x j line h = rw (spells-local want j h) (go (spells t j want))
+  names-local want j line h = rw (spells-local want j h) (go (spells t j want))
     where
-      go : (b : Bool) → _≡_ {A = Outcome A} (found (pick b (Read (record { at = o + j + length want; line = more line })) (Refused 1 (more line))) x)
-          (moved o (found (pick b (Read (record { at = j + length want; line = more line })) (Refused 1 (more line))) x))
+      go : (b : Bool) → cond b (Read (record { at = o + j + length want; line = more line })) (Refused (refusal Names (more line)))
+          ≡ movedAnswer o (cond b (Read (record { at = j + length want; line = more line })) (Refused (refusal Names (more line))))
       go true = rw (add-assoc o j (length want))
       go false = refl
 
@@ -218,9 +233,9 @@ shows-cut s c at h =
     record {
       within = simp (length-take, length-drop) (omega arith);
       bytes = λ j p. sym (rw (getD-take (c .size) (drop (at - c .back) s) j 0 (omega (arith, simp (length-take, length-drop) at p)), getD-drop));
-      ends = λ e. let q = leb-true (length s) (at - c .back + c .size) (told (c .told) e) in simp (length-take, length-drop) (omega arith);
+      ends = λ e. let q = leb-true (length s) (at - c .back + c .size) (shown-end (c .shown) e) in simp (length-take, length-drop) (omega arith);
     }
   where
-    told : (b : Bool) → pick b (leb (length s) (fromOf c at + c .size)) false ≡ true → leb (length s) (fromOf c at + c .size) ≡ true
-    told true e = e
-    told false e = absurd (let z : _≡_ {A = ℕ} 0 1 = cc in omega arith)
+    shown-end : (b : Bool) → cond b (leb (length s) (fromOf c at + c .size)) false ≡ true → leb (length s) (fromOf c at + c .size) ≡ true
+    shown-end true e = e
+    shown-end false e = absurd (let z : _≡_ {A = ℕ} 0 1 = cc in omega arith)

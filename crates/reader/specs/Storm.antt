@@ -1,20 +1,24 @@
--- Document 01, "Files": the text of `storm.txt`, record after record. Assumes nothing.
+-- Document 01, "Files": the text of `storm.txt`, record after record. What the text has is said of the text alone (`nextAt`, `stormOf`), and
+-- what a call leaves in the numbers that it was lent by `nextLeft` and `recordStepLeft`. Assumes nothing.
 use Prim.Native.Nat.{ℕ, zero, suc, _+_, _*_}
 use mathlib.Core.List.{List, [], _∷_}
-use mathlib.Core.Bool.{Bool, true, false}
-use lib.ListN.{length, getD, set, replicate}
-use lib.IntN.{ℤ, pos}
+use mathlib.Core.Bool.{Bool, true, cond, _&&_}
+use lib.ListN.{length, take, drop}
+use lib.IntN.{ℤ}
 use lib.Dec.{ltb}
-use Rattle.records.specs.declared.Point.{Point}
-use Rattle.records.specs.declared.Record.{Record}
-use Rattle.reader.specs.Text.{pick}
-use Rattle.reader.specs.Lines.{Outcome, read, refused, onward, linesAt, namesAt, holds}
+use Rattle.records.specs.declared.Kind.the-variants.{Ended, Points, Lent}
+use Rattle.records.specs.declared.Refusal.{Refusal}
+use Rattle.records.specs.Refusals.{refusal}
+use Rattle.records.specs.Groups.{at as numberAt}
+use Rattle.records.specs.Limits.{countOk, mostPoints}
+use Rattle.records.specs.Shapes.{Record, storm}
+use Rattle.reader.specs.Lines.{Outcome, read, refused, found, Leaves, leaves, laid, LinesRead, linesAt, namesAt, holds}
 use Rattle.reader.specs.declared.Lines.{Lines}
 use Rattle.reader.specs.declared.Lines.the-variants.{Read, Refused}
-use Rattle.reader.specs.declared.storm.RecordRead.{RecordRead}
-use Rattle.reader.specs.declared.storm.RecordStep.{RecordStep}
+use Rattle.reader.specs.declared.storm.Next.{Next}
 use Rattle.reader.specs.declared.storm.Next.the-variants as next
-use Rattle.reader.specs.declared.storm.Step.the-variants as step
+use Rattle.reader.specs.declared.storm.RecordStep.{RecordStep}
+use Rattle.reader.specs.declared.storm.RecordStep.the-variants as step
 use Rattle.reader.specs.declared.storm.StartStep.{StartStep}
 use Rattle.reader.specs.declared.storm.StartStep.the-variants as start
 
@@ -26,59 +30,67 @@ stormNames = 115 ∷ 101 ∷ 99 ∷ 111 ∷ 110 ∷ 100 ∷ 115 ∷ 32 ∷ 116 �
 unfoldable pub stormStart : List ℕ → Lines
 stormStart s = namesAt s stormNames 0 0
 
--- the all-zero record, which stands beside every answer that is no record
-abbrev pub noPoint : Point
-noPoint = record { wind = pos 0; angle = pos 0; deficit = pos 0 }
+-- ---- a record
 
-unfoldable pub noRecord : Record
-noRecord = record { seconds = pos 0; tide = pos 0; count = 0; points = replicate 65 noPoint }
+-- the record that numbers are: seconds, tide, and then three for each point
+unfoldable pub recordOf : List ℤ → Record
+recordOf l = storm (record { seconds = numberAt l 0; tide = numberAt l 1 }) (drop 2 l)
 
--- a record's values by rows of five: seconds, tide, wind, angle, deficit
-unfoldable pub noRows : List ℤ
-noRows = replicate 325 (pos 0)
+-- how many numbers a record of n points is
+abbrev pub recordSize : ℕ → ℕ
+recordSize n = 2 + 3 * n
 
-abbrev pub pointOf : List ℤ → ℕ → Point
-pointOf rows i = record { wind = getD rows (i * 5 + 2) (pos 0); angle = getD rows (i * 5 + 3) (pos 0); deficit = getD rows (i * 5 + 4) (pos 0) }
-
--- the points of n more rows, from row i on
-unfoldable pub pointsOf : List ℤ → ℕ → ℕ → List Point → List Point
-pointsOf rows zero i points = points
-pointsOf rows (suc n) i points = pointsOf rows n (i + 1) (set points i (pointOf rows i))
-
-unfoldable pub recordOf : ℕ → List ℤ → Record
-recordOf n rows =
-    record { seconds = getD rows 0 (pos 0); tide = getD rows 1 (pos 0); count = n; points = pointsOf rows n 0 (replicate 65 noPoint) }
-
--- whether a traverse may have so many points
-unfoldable pub counts : ℕ → Bool
-counts n = pick (ltb n 2) false (pick (ltb 65 n) false true)
+-- the record of n points that the first of a slice's numbers are
+abbrev pub recordIn : ℕ → List ℤ → Record
+recordIn n l = storm (record { seconds = numberAt l 0; tide = numberAt l 1 }) (take (3 * n) (drop 2 l))
 
 -- what a storm text has next: a record, or no more
 pub data Further : Type 0 where
   one : Record → Further
   none : Further
 
--- the next record, for a traverse of n points: a line for each point, and every line repeats the seconds and the tide.
--- Where the text has ended there is none; 3 where that would be the first, which has one line, the names, before it
+-- the lines of a record of n points: five values each, of which seconds and tide are those of the first line
+abbrev pub recordLines : List ℕ → ℕ → ℕ → ℕ → LinesRead
+recordLines s n at line = linesAt s 5 2 n 0 at line []
+
+-- the next record, for a traverse of n points. Where the text has ended there is none; 3 where that would be the first, which has one line, the
+-- names, before it
 unfoldable pub nextAt : List ℕ → ℕ → ℕ → ℕ → Outcome Further
 nextAt s n at line =
-    pick (counts n)
-    (pick (ltb at (length s))
-    (onward (linesAt s 5 true n 0 at line noRows) (λ rows a l. read (one (recordOf n rows)) a l))
-    (pick (ltb 1 line) (read none at line) (refused 3 line)))
-    (refused 5 n)
+    cond (countOk mostPoints n)
+    (cond (ltb at (length s))
+    (found (recordLines s n at line .answer) (one (recordOf (recordLines s n at line .kept))))
+    (cond (ltb 1 line) (read none at line) (refused (refusal Ended line))))
+    (refused (refusal Points n))
 
--- the answer for each case: the record with the cursor past it, the end of the text, or document 01's number and place
-unfoldable pub recordRead : Outcome Further → RecordRead
-recordRead (read (one r) at line) = record { answer = next.Read (record { at = at; line = line }); got = r }
-recordRead (read none at line) = record { answer = next.End; got = noRecord }
-recordRead (refused n p) = record { answer = next.Refused n p; got = noRecord }
+-- the numbers that are kept of it, whatever is found
+unfoldable pub keptAt : List ℕ → ℕ → ℕ → ℕ → List ℤ
+keptAt s n at line = cond (countOk mostPoints n) (cond (ltb at (length s)) (recordLines s n at line .kept) []) []
 
--- how reading a storm ends: with the text, or with a refusal's number and place. By windows alone: no more of them, with the place and the
--- lines before it, or before the names line was read
+-- the answer for each case: the cursor past the record, the end of the text, or the refusal
+unfoldable pub nextOf : Outcome Further → Next
+nextOf (read (one r) at line) = next.Read (record { at = at; line = line })
+nextOf (read none at line) = next.End
+nextOf (refused r) = next.Refused r
+
+-- whether a record of n points has no place in so many lent numbers; a count that is refused needs none
+unfoldable pub tooFew : ℕ → ℕ → Bool
+tooFew n size = countOk mostPoints n && ltb size (recordSize n)
+
+-- what the call leaves: the numbers as lent where they are too few, otherwise what was kept laid into them
+unfoldable pub nextLeft : List ℕ → ℕ → ℕ → ℕ → List ℤ → Leaves Next
+nextLeft s n at line lent =
+    cond (tooFew n (length lent))
+    (leaves (next.Refused (refusal Lent 0)) lent)
+    (leaves (nextOf (nextAt s n at line)) (laid (keptAt s n at line) lent))
+
+-- ---- the whole text
+
+-- how reading a storm ends: with the text, or with a refusal. By windows alone: no more of them, with the place and the lines before it, or
+-- before the names line was read
 pub data Stop : Type 0 where
-  over : Stop
-  stopped : ℕ → ℕ → Stop
+  ended : Stop
+  stopped : Refusal → Stop
   paused : ℕ → ℕ → Stop
   unread : Stop
 
@@ -95,21 +107,21 @@ with r x = record { records = r ∷ x .records; stop = x .stop }
 
 abbrev pub stormBy : Outcome Further → (ℕ → ℕ → Storm) → Storm
 stormBy (read (one r) a l) next = with r (next a l)
-stormBy (read none a l) next = none-more over
-stormBy (refused m p) next = none-more (stopped m p)
+stormBy (read none a l) next = none-more ended
+stormBy (refused r) next = none-more (stopped r)
 
 -- the records from a place on, k at most; a text has no more records than bytes
-unfoldable pub stormLeft : List ℕ → ℕ → ℕ → ℕ → ℕ → Storm
-stormLeft s n zero at line = none-more over
-stormLeft s n (suc k) at line = stormBy (nextAt s n at line) (stormLeft s n k)
+unfoldable pub recordsBy : List ℕ → ℕ → ℕ → ℕ → ℕ → Storm
+recordsBy s n zero at line = none-more ended
+recordsBy s n (suc k) at line = stormBy (nextAt s n at line) (recordsBy s n k)
 
 unfoldable pub stormRest : List ℕ → ℕ → ℕ → ℕ → Storm
-stormRest s n at line = stormLeft s n (suc (length s)) at line
+stormRest s n at line = recordsBy s n (suc (length s)) at line
 
 -- the whole text, for a traverse of n points: the names line, and record after record
 abbrev pub stormFrom : Lines → (ℕ → ℕ → Storm) → Storm
 stormFrom (Read c) next = next (c .at) (c .line)
-stormFrom (Refused m p) next = none-more (stopped m p)
+stormFrom (Refused r) next = none-more (stopped r)
 
 unfoldable pub stormOf : List ℕ → ℕ → Storm
 stormOf s n = stormFrom (stormStart s) (stormRest s n)
@@ -118,15 +130,23 @@ stormOf s n = stormFrom (stormStart s) (stormRest s n)
 
 -- the first line in a window, or that more of the text is needed
 unfoldable pub startStep : List ℕ → Bool → StartStep
-startStep w last = pick (holds (length w) last 0 32) (start.Answer (stormStart w)) start.More
+startStep w last = cond (holds (length w) last 0 32) (start.Answer (stormStart w)) start.More
 
 -- whether a window of so many bytes is enough for the next record: 55 bytes for each line, eleven for each value
 unfoldable pub holdsRecord : ℕ → Bool → ℕ → ℕ → Bool
-holdsRecord size last n at = pick (counts n) (holds size last at (n * 55)) true
+holdsRecord size last n at = cond (countOk mostPoints n) (holds size last at (n * 55)) true
 
--- the next record in a window, or that more of the text is needed
-unfoldable pub recordStep : List ℕ → Bool → ℕ → ℕ → ℕ → RecordStep
-recordStep w last n at line =
-    pick (holdsRecord (length w) last n at)
-    (record { answer = step.Answer (recordRead (nextAt w n at line) .answer); got = recordRead (nextAt w n at line) .got })
-    (record { answer = step.More; got = noRecord })
+-- what a window shows: that more of the text is needed, or what the text has next
+pub data Seen : Type 0 where
+  needs-more : Seen
+  seen : Outcome Further → Seen
+
+unfoldable pub recordStep : List ℕ → Bool → ℕ → ℕ → ℕ → Seen
+recordStep w last n at line = cond (holdsRecord (length w) last n at) (seen (nextAt w n at line)) needs-more
+
+-- what the call leaves
+unfoldable pub recordStepLeft : List ℕ → Bool → ℕ → ℕ → ℕ → List ℤ → Leaves RecordStep
+recordStepLeft w last n at line lent =
+    cond (holdsRecord (length w) last n at)
+    (leaves (step.Answer (nextLeft w n at line lent .answer)) (nextLeft w n at line lent .numbers))
+    (leaves step.More lent)

@@ -1,15 +1,15 @@
 // The text of `traverse.txt` and `storm.txt`, read by a cursor: document 01's "Files" and its checks 1 to 4.
-// Text is a slice of bytes: the whole text, or a window of it. Nothing here opens a file or judges a value's limits.
+// Text is a slice of bytes: the whole text, or a window of it. What is read goes into a slice of numbers that the caller lends. Nothing here
+// opens a file or judges a value's limits.
 // This file has the cursor, values, value lines and names lines; `storm` and `traverse` the two texts.
 mod storm;
 mod traverse;
 
+use records::Kind;
+use records::Refusal;
 pub use storm::Next;
-pub use storm::RecordRead;
 pub use storm::RecordStep;
 pub use storm::StartStep;
-pub use storm::Step;
-pub use storm::counts;
 pub use storm::storm_start;
 pub use storm::storm_start_step;
 pub use traverse::Known;
@@ -19,11 +19,16 @@ pub use traverse::TraverseRead;
 pub use traverse::TraverseStep;
 pub use traverse::Whole;
 pub use traverse::read_traverse;
+ghost use mathlib.Core.Bool.{cond, _&&_};
+ghost use mathlib.Core.List.{[]};
 ghost use mathlib.Core.Path.{_≡_};
-ghost use Prim.Native.Nat.{_+_, _*_, _<_, _≤_, _^_};
+ghost use Prim.Native.Nat.{_+_, _-_, _*_, _<_, _≤_, _^_};
+ghost use lib.Dec.{eqb};
 ghost use lib.ListN.{length};
-ghost use Rattle.reader.specs.Text.{more as Text·more, byte, digitAt, goodOf, signedOf, startAt, closeOf};
-ghost use Rattle.reader.specs.Lines.{sameAt, found, linesAt, namesAt, holds as Lines·holds};
+ghost use Rattle.records.specs.Refusals.{refusal};
+ghost use Rattle.reader.specs.Text.{more as Text·more, byte, digitAt, goodOf, signedValue, startAt, closeOf};
+ghost use Rattle.reader.specs.Lines.{leaves, repeated as Lines·repeated, noneKept, keptLeft, linesAt, linesLeft, namesAt, holds as Lines·holds};
+ghost use Rattle.reader.specs.declared.Lines.the-variants as lines;
 
 // A place in a text, and how many lines stand before it.
 pub struct Cursor {
@@ -31,10 +36,16 @@ pub struct Cursor {
     pub line: usize,
 }
 
-// What reading lines at a cursor finds: the cursor past them, or the refusal's number and line.
+// What reading lines at a cursor finds: the cursor past them, or the refusal.
 pub enum Lines {
     Read(Cursor),
-    Refused(u64, usize),
+    Refused(Refusal),
+}
+
+// Where in the lent numbers the next is kept, and whether all values that lines share were those of the first line.
+struct Kept {
+    next: usize,
+    same: bool,
 }
 
 // One more line or point, up to the greatest number there is.
@@ -119,7 +130,7 @@ fn good(negative: bool, count: u64, first: u8) -> bool
 
 fn signed(negative: bool, size: u64) -> i64
     requires { ⌜ size < 2 ^ 63 ⌝ }
-    ensures { λ r. ⌜ r ≡ signedOf negative size ⌝ }
+    ensures { λ r. ⌜ r ≡ signedValue negative size ⌝ }
 {
     let x = size as i64;
     if negative { 0 - x } else { x }
@@ -132,39 +143,84 @@ fn close_of(n: usize) -> u8
     if n == 0 { 10 } else { 32 }
 }
 
-// Whether row i has the first two values of row 0, where lines repeat them.
-fn same(repeats: bool, i: usize, out: &[i64]) -> bool
-    requires { ⌜ i * 5 + 5 ≤ length (now out) ⌝ }
-    ensures { λ r. ⌜ r ≡ sameAt repeats i (now (out .entry)) ⌝ }
+// Whether value k of line i is one that lines share with the first.
+fn repeated(shared: usize, i: usize, k: usize) -> bool
+    ensures { λ r. ⌜ r ≡ Lines·repeated shared i k ⌝ }
 {
-    if !repeats {
-        return true;
-    }
-    if out[i * 5] != out[0] {
+    if i == 0 {
         return false;
     }
-    out[i * 5 + 1] == out[1]
+    k < shared
+}
+
+impl Kept {
+    // Before the first value.
+    fn none() -> Self
+        ensures { λ r. ⌜ r ≡ noneKept ⌝ }
+    {
+        Kept {
+            next: 0,
+            same: true,
+        }
+    }
+
+    // Keeps the value v of a line; one that is there again, as value k, is compared with the first line's.
+    fn keep(self, out: &mut [i64], again: bool, k: usize, v: i64) -> Self
+        requires { ⌜ cond again k (self .next) < length (now out) ⌝ }
+        ensures { λ r. ⌜ leaves r (now (out .exit)) ≡ keptLeft again k v self (now (out .entry)) ⌝ }
+    {
+        let next = self.next;
+        let same = self.same;
+        if again {
+            if out[k] != v {
+                return Kept { next, same: false };
+            }
+            return Kept { next, same };
+        }
+        out[next] = v;
+        Kept {
+            next: next + 1,
+            same,
+        }
+    }
+}
+
+fn refused(kind: Kind, place: usize) -> Lines
+    ensures { λ r. ⌜ r ≡ lines.Refused (refusal kind place) ⌝ }
+{
+    Lines::Refused(Refusal { kind, place })
 }
 
 impl Cursor {
-    // Reads n lines of so many values into rows of five places, and leaves them at the first fault, even from inside a number.
-    // What a refusal leaves in the rows is not promised: whoever calls this throws them away.
-    fn lines(self, s: &[u8], width: usize, repeats: bool, n: usize, out: &mut [i64]) -> Lines
-        requires { ⌜ (width ≤ 5) × ((n * 5 ≤ length (now out)) × (length (now out) ≤ 325)) ⌝ }
-        ensures { λ r. ⌜ found r (now (out .exit)) ≡ linesAt (now (s .entry)) width repeats n 0 (self .at) (self .line) (now (out .entry)) ⌝ }
+    // Whether a value ends here: so many digits, nine at most, with this byte first, are one, and the byte here closes it with n more behind it.
+    fn closes(self, s: &[u8], negative: bool, count: u64, first: u8, n: usize) -> bool
+        requires { ⌜ count ≤ 9 ⌝ }
+        ensures { λ r. ⌜ r ≡ (goodOf negative count first && eqb (byte (now (s .entry)) (self .at)) (closeOf n)) ⌝ }
+    {
+        if !good(negative, count, first) {
+            return false;
+        }
+        self.byte(s) == close_of(n)
+    }
+
+    // Reads n lines of so many values, of which each shares the first `shared` with the first line, and leaves them at the first fault, even
+    // from inside a number. The numbers go into `out` from its start, those that lines share once.
+    fn lines(self, s: &[u8], width: usize, shared: usize, n: usize, out: &mut [i64]) -> Lines
+        requires { ⌜ (shared ≤ width) × (shared + n * (width - shared) ≤ length (now out)) ⌝ }
+        ensures { λ r. ⌜ leaves r (now (out .exit)) ≡ linesLeft (linesAt (now (s .entry)) width shared n 0 (self .at) (self .line) []) (now (out .entry)) ⌝ }
     {
         let mut c = self;
+        let mut kept = Kept::none();
         let mut i = 0;
         'lines: loop {
             if i == n {
                 break 'lines Lines::Read(c);
             }
             if c.at >= s.len() {
-                break 'lines Lines::Refused(3, c.line);
+                break 'lines refused(Kind::Ended, c.line);
             }
             c = c.next_line();
-            let mut k = 0;
-            while k < width {
+            for k in 0..width {
                 let negative = c.byte(s) == 45;
                 c = c.past_sign(s);
                 let first = c.byte(s);
@@ -173,25 +229,21 @@ impl Cursor {
                 let mut d = c.digit(s);
                 while d < 10 {
                     if count == 9 {
-                        break 'lines Lines::Refused(2, c.line);
+                        break 'lines refused(Kind::Malformed, c.line);
                     }
                     value = value * 10 + d;
                     count += 1;
                     c = c.past();
                     d = c.digit(s);
                 }
-                if !good(negative, count, first) {
-                    break 'lines Lines::Refused(2, c.line);
-                }
-                if c.byte(s) != close_of(width - (k + 1)) {
-                    break 'lines Lines::Refused(2, c.line);
+                if !c.closes(s, negative, count, first, width - (k + 1)) {
+                    break 'lines refused(Kind::Malformed, c.line);
                 }
                 c = c.past();
-                out[i * 5 + k] = signed(negative, value);
-                k += 1;
+                kept = kept.keep(out, repeated(shared, i, k), k, signed(negative, value));
             }
-            if !same(repeats, i, out) {
-                break 'lines Lines::Refused(4, c.line);
+            if !kept.same {
+                break 'lines refused(Kind::Differs, c.line);
             }
             i += 1;
         }
@@ -207,10 +259,10 @@ impl Cursor {
         let mut i = 0;
         while i < want.len() {
             if at >= s.len() {
-                return Lines::Refused(1, line);
+                return refused(Kind::Names, line);
             }
             if s[at] != want[i] {
-                return Lines::Refused(1, line);
+                return refused(Kind::Names, line);
             }
             at += 1;
             i += 1;

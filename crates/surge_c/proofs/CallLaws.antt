@@ -1,114 +1,60 @@
--- The exported calls from what their parts give. Assumes nothing.
+-- A call on rows is the call on their numbers, though it moves no more than 64 of them, by way of 192 numbers. The call on numbers may be any F that
+-- reads and writes no numbers but those of its n rows, and none where n is more than 64. Assumes nothing.
 use mathlib.Core.Path.{_≡_, refl, sym, ap, _∙_}
-use mathlib.Core.Bool.{Bool, true, false, cond, _&&_}
-use mathlib.Core.List.{List, []}
-use borrow.Author.Tests.{eqb-true}
+use mathlib.Core.Bool.{Bool, true, false}
+use mathlib.Core.List.{List, _++_}
 use native.Mathlib.Omega.{arith}
-use Prim.Native.Nat.{ℕ, _*_, _/_, _%_, _≤_}
-use lib.Dec.{eqb}
-use lib.ListN.{length, take}
+use borrow.Author.Tests.{leb-true, leb-false}
+use Prim.Native.Nat.{ℕ, _*_, _<_, _≤_}
+use lib.Dec.{leb}
+use lib.ListN.{length, replicate}
 use lib.IntN.{ℤ, pos}
-use Rattle.records.specs.declared.Traverse.{Traverse}
-use Rattle.records.specs.declared.Record.{Record}
-use Rattle.march.specs.declared.Row.{Row}
-use Rattle.march.specs.declared.State.{State}
-use Rattle.march.specs.declared.Opened.{Opened}
-use Rattle.march.specs.declared.Taken.{Taken}
-use Rattle.march.specs.declared.Refusal.{Refusal}
-use Rattle.march.specs.declared.Check.{Check}
-use Rattle.march.specs.declared.Check.the-variants.{Pass, Fail}
-use Rattle.march.specs.declared.Answer.the-variants.{Accepted, Refused}
-use Rattle.march.specs.Refusals.{numberOf, placeOf}
-use Rattle.march.specs.Answers.{accepted, refused}
-use Rattle.march.specs.Checks.{openOf, openedBy, checkOf}
-use Rattle.march.specs.Take.{takeOf, leftBy, afterChecks}
-use Rattle.march.proofs.ChecksPassed.{passed}
-use Rattle.surge_c.specs.Loads.{wholes}
-use Rattle.surge_c.specs.Stores.{rowNumbers, stateNumbers, answerNumbers}
-use Rattle.surge_c.specs.Calls.{buffersOk, wrongBuffer, refusedAnswer, leftOpen, openWith, Left, left, takeWith, AcceptIn}
+use Rattle.records.specs.declared.Row.{Row}
+use Rattle.surge_c.specs.Rows.{numbersFrom, rowsFrom, movedRows}
+use Rattle.lent.specs.Calls.{LeftNumbers, leftNumbers}
+use Rattle.surge_c.specs.Calls.{LeftRows, leftRows}
+use Rattle.surge_c.proofs.RowLaws.{laid, backed, past, laid-all, backed-all, backed-laid, numbers-length, rows-back}
 
-pub buffers : (s a : ℕ) → buffersOk s a ≡ true → (s ≡ 2) × (a ≡ 3)
-unfolding buffersOk
-buffers s a e = by (eqb s 2) (eqb a 3) refl refl e
-  where
-    by : (t u : Bool) → eqb s 2 ≡ t → eqb a 3 ≡ u → (t && u) ≡ true → (s ≡ 2) × (a ≡ 3)
-    by true true p q e = (eqb-true s 2 p, eqb-true a 3 q)
-    by true false p q e = absurd (never e)
-      where
-        never : false ≡ true → ⊥
-        never e = let z : _≡_ {A = ℕ} 0 1 = cc in omega arith
-    by false u p q e = absurd (never e)
-      where
-        never : false ≡ true → ⊥
-        never e = let z : _≡_ {A = ℕ} 0 1 = cc in omega arith
+abbrev pub zeros : List ℤ
+zeros = replicate 192 (pos 0)
 
--- ---- opening a traverse
+abbrev pub withNumbers : LeftNumbers → List ℤ → LeftNumbers
+withNumbers x l = leftNumbers (x .number) (x .state) l (x .setup) (x .answer)
 
-module _ (t : Traverse) (state answer : List ℤ) where
-  pub open-wrong : buffersOk (length state) (length answer) ≡ false → leftOpen wrongBuffer state answer ≡ openWith t state answer
-  open-wrong b = rw b
+-- what was left as numbers, with rows made of them
+abbrev pub inRows : LeftNumbers → LeftRows
+inRows x = leftRows (x .number) (x .state) (rowsFrom (x .numbers)) (x .setup) (x .answer)
 
-  module _ (b : buffersOk (length state) (length answer) ≡ true) (o : Opened) (h : openedBy o ≡ openOf t) where
-    pub open-refused : (number : ℕ) (answer′ : List ℤ) (refusal : Refusal) → o .check ≡ Fail refusal → number ≡ numberOf refusal →
-        answer′ ≡ refusedAnswer (placeOf refusal) → leftOpen number state answer′ ≡ openWith t state answer
-    open-refused number answer′ refusal c m a = rw (b, ← h, c, m, a)
+-- what a call on n rows reads and writes of the numbers
+pub record Framed (F : ℕ → List ℤ → LeftNumbers) : Type 0 where
+  pub few : (n : ℕ) (l more : List ℤ) → n ≤ 64 → length l ≡ 3 * n → F n (l ++ more) ≡ withNumbers (F n l) (F n l .numbers ++ more)
+  pub long : (n : ℕ) (l : List ℤ) → n ≤ 64 → length l ≡ 3 * n → length (F n l .numbers) ≡ 3 * n
+  pub many : (n : ℕ) (l k : List ℤ) → 64 < n → F n l ≡ withNumbers (F n k) l
 
-    pub open-accepted : (state′ answer′ : List ℤ) → o .check ≡ Pass → state′ ≡ stateNumbers (o .state) →
-        answer′ ≡ answerNumbers (pos 0) (pos 0) (pos 0) → leftOpen 0 state′ answer′ ≡ openWith t state answer
-    open-accepted state′ answer′ c s a = rw (b, ← h, c, s, a)
+module _ (F : ℕ → List ℤ → LeftNumbers) (framed : Framed F) (rows : List Row) where
+  -- what was left as numbers, with m rows made of them
+  abbrev put-back : ℕ → LeftNumbers → LeftRows
+  put-back m x = leftRows (x .number) (x .state) (backed m (x .numbers) rows) (x .setup) (x .answer)
 
--- ---- taking a record
+  moved : put-back (movedRows (length rows)) (F (length rows) (laid (movedRows (length rows)) rows zeros)) ≡ inRows (F (length rows) (numbersFrom rows))
+  moved = by (leb (length rows) 64) refl
+    where
+      x : LeftNumbers
+      x = F (length rows) (numbersFrom rows)
 
-never-accepted : (number place : ℕ) (elapsed low high : ℤ) → refused number place ≡ accepted elapsed low high → ⊥
-never-accepted number place elapsed low high e = let z : _≡_ {A = ℕ} 0 1 = cc in omega arith
+      by : (small : Bool) → leb (length rows) 64 ≡ small → put-back (movedRows (length rows)) (F (length rows) (laid (movedRows (length rows)) rows zeros)) ≡ inRows x
+      by true e =
+          let h : length rows ≤ 64 = leb-true (length rows) 64 e in
+          let all : movedRows (length rows) ≡ length rows = omega (arith, h) in
+          rw (all, laid-all rows zeros, framed .few (length rows) (numbersFrom rows) (past rows zeros) h (numbers-length rows))
+          (ap (λ (l : List Row). leftRows (x .number) (x .state) l (x .setup) (x .answer)) (backed-all rows (x .numbers) (past rows zeros) (framed .long (length rows) (numbersFrom rows) h (numbers-length rows))))
+      by false e =
+          let m : ℕ = movedRows (length rows) in
+          let x₁ : F (length rows) (laid m rows zeros) ≡ withNumbers x (laid m rows zeros) = framed .many (length rows) (laid m rows zeros) (numbersFrom rows) (leb-false (length rows) 64 e) in
+          let x₂ : x ≡ withNumbers x (numbersFrom rows) = framed .many (length rows) (numbersFrom rows) (numbersFrom rows) (leb-false (length rows) 64 e) in
+          ap (put-back m) x₁ ∙ ap (λ (l : List Row). leftRows (x .number) (x .state) l (x .setup) (x .answer)) (backed-laid m rows zeros ∙ sym (rows-back rows)) ∙ sym (ap inRows x₂)
 
-module _ (t : Traverse) (r : Record) (st : State) (held : List Row) (n : ℕ) (setup state rows answer : List ℤ) where
-  pub take-wrong : buffersOk (length state) (length answer) ≡ false →
-      left wrongBuffer state rows setup answer ≡ takeWith t r st held n setup state rows answer
-  take-wrong b = rw b
-
-  module _ (x : Taken) (setup′ : List ℤ) (h : leftBy n x setup′ ≡ takeOf t r st held n setup) where
-    pub take-refused : buffersOk (length state) (length answer) ≡ true → (number : ℕ) (answer′ : List ℤ) (refusal : Refusal) →
-        x .answer ≡ Refused refusal → number ≡ numberOf refusal → answer′ ≡ refusedAnswer (placeOf refusal) →
-        left number state rows setup′ answer′ ≡ takeWith t r st held n setup state rows answer
-    take-refused b number answer′ refusal c m a = rw (b, ← h, c, m, a)
-
-    module _ (elapsed low high : ℤ) (c : x .answer ≡ Accepted elapsed low high) where
-      pub take-accepted : buffersOk (length state) (length answer) ≡ true → (number : ℕ) (state′ rows′ answer′ : List ℤ) →
-          left number state′ rows′ [] answer′ ≡ left 0 (stateNumbers (x .state)) (rowNumbers (take n (x .rows))) [] (answerNumbers (pos 0) low high) →
-          left number state′ rows′ setup′ answer′ ≡ takeWith t r st held n setup state rows answer
-      take-accepted b number state′ rows′ answer′ q =
-          rw (b, ← h, c) (ap (λ (z : Left). left (z .number) (z .state) (z .rows) setup′ (z .answer)) q)
-
-      -- it passed the checks
-      passes : checkOf t r st held n (length setup) ≡ Pass
-      unfolding takeOf
-      passes = by (checkOf t r st held n (length setup)) (sym (ap (λ (z : _). z .answer) h) ∙ rw c)
-        where
-          by : (k : Check) → afterChecks k t r st held n setup .answer ≡ accepted elapsed low high → k ≡ Pass
-          by Pass e = refl
-          by (Fail refusal) e = absurd (never-accepted _ _ _ _ _ e)
-
-      rows-whole : (len n : ℕ) → n ≡ wholes 3 len → 1 ≤ n → len ≡ 3 * n
-      unfolding wholes
-      rows-whole len n e h = by (eqb (len % 3) 0) refl e
-        where
-          by : (u : Bool) → eqb (len % 3) 0 ≡ u → n ≡ cond u (len / 3) 0 → len ≡ 3 * n
-          by true p q = let z : len % 3 ≡ 0 = eqb-true (len % 3) 0 p in omega arith
-          by false p q = omega arith
-
-      pub take-in : buffersOk (length state) (length answer) ≡ true → n ≡ wholes 3 (length rows) → AcceptIn n state rows answer
-      take-in b e =
-          let p = passed t r st held n (length setup) passes in
-          let lo : 1 ≤ n = omega (arith, p .lent .n-is, p .traverse .from) in
-          record {
-            most = omega (arith, p .lent .n-is, p .traverse .to);
-            state-is = buffers _ _ b .0;
-            rows-are = rows-whole (length rows) n e lo;
-            answer-is = buffers _ _ b .1;
-          }
-
--- the same traverse, record, state and rows
-pub same-call : (t t′ : Traverse) (r r′ : Record) (st st′ : State) (held held′ : List Row) (n n′ : ℕ) (setup state rows answer : List ℤ) →
-    t ≡ t′ → r ≡ r′ → st ≡ st′ → held ≡ held′ → n ≡ n′ → takeWith t r st held n setup state rows answer ≡ takeWith t′ r′ st′ held′ n′ setup state rows answer
-same-call t t′ r r′ st st′ held held′ n n′ setup state rows answer a b c d e = rw (a, b, c, d, e)
+  -- what a call says, from what the call on numbers said
+  pub call-said : (m : ℕ) → m ≡ movedRows (length rows) → (r : ℕ) (state numbers setup answer : List ℤ) → leftNumbers r state numbers setup answer ≡ F (length rows) (laid m rows zeros)
+      → leftRows r state (backed m numbers rows) setup answer ≡ inRows (F (length rows) (numbersFrom rows))
+  call-said m m-is r state numbers setup answer e = ap (put-back m) e ∙ rw m-is moved

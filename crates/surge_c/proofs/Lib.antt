@@ -1,7 +1,9 @@
 -- The laws that the proofs of `surge_c` cite.
-pub mod LoadLaws
-pub mod StoreLaws
+pub mod Counts
+pub mod Locals
+pub mod Elements
+pub mod RowLaws
 pub mod CallLaws
+pub mod NumberLaws
 pub mod Again
-pub mod Places
-pub mod TextLaws
+pub mod Demand3

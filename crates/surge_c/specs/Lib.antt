@@ -1,6 +1,5 @@
-pub mod Loads
-pub mod Stores
+-- The root of the definitions of `surge_c`.
+pub mod Rows
 pub mod Calls
 pub mod Again
-pub mod Places
-pub mod Texts
+pub mod Demand3

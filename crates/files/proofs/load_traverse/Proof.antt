@@ -1,8 +1,12 @@
 -- `files::load_traverse` meets its contract. Invariant: what the window holds fits it; the turns fall. Assumes nothing.
 use Rattle.files.specs.Filled.{Refills, Refilled}
+use Rattle.files.specs.declared.Loaded.the-variants.{Read, Failed}
 use Rattle.files.proofs.Asks.{Asks, traverse-asks}
+use Rattle.files.proofs.PointsRead.{read-has, file-has}
 use Rattle.files.specs.declared.Filled.{Filled}
 use Rattle.reader.specs.declared.traverse.TraverseStep.{TraverseStep}
+use Rattle.reader.specs.Lines.{Leaves}
+use Rattle.reader.specs.Traverse.{held}
 use Rattle.reader.proofs.Ends.{Stands as Step-stands, traverse-stands}
 use borrow.Author.Needs.{needs}
 use native.Mathlib.Omega.{arith}
@@ -14,22 +18,22 @@ use Rattle.files.proofs.load_traverse.Statement.{statement}
 use Rattle.files.proofs.load_traverse.Tie as tie
 
 abbrev Inv-loop : tie.InvT-loop
-Inv-loop fd buf₀ turns₀ k₀ line₀ have₀ last₀ t15 buf turns k line have last = (length buf ≡ length buf₀) × (have ≤ length buf)
+Inv-loop fd buf₀ points₀ turns₀ k₀ line₀ have₀ last₀ t15 buf points turns k line have last = (length buf ≡ length buf₀) × (length points ≡ length points₀) × (have ≤ length buf)
 
 abbrev μ-loop : tie.MeasureT-loop
-μ-loop fd buf₀ turns₀ k₀ line₀ have₀ last₀ t15 buf turns k line have last = turns
+μ-loop fd buf₀ points₀ turns₀ k₀ line₀ have₀ last₀ t15 buf points turns k line have last = turns
 
 -- a step stops for more of the text within what the window holds, and where it is short of a line
-stays : (c : tie.After-answer2 Inv-loop μ-loop) → Refills (c .answer2 .given .0 .0 .at) (c .before .before .before .before .before .before .loop .have) (length (c .before .before .before .before .before .before .loop .buf))
+stays : (c : tie.After-answer2 Inv-loop μ-loop) → Refills (c .answer2 .given .0 .0 .at) (c .before .before .before .before .before .before .before .before .loop .have) (length (c .before .before .before .before .before .before .before .before .loop .buf))
 stays c =
-    let l = c .before .before .before .before .before .before .loop in
+    let l = c .before .before .before .before .before .before .before .before .loop in
     let w = take (l .have) (l .buf) in
-    let e = length-take-le (l .have) (l .buf) (l .inv .1) in
-    let s = c .before .before .before .step in
-    let f = ap (λ (y : TraverseStep). y .answer) (sym (s .ensures)) ∙ c .answer2 .given .1 in
-    let x = subst (Step-stands 0 (length w)) f (traverse-stands w (l .last) (length w) (omega arith) (l .k) 0 (l .line) (omega arith)) in
-    let y = subst (Asks (length w)) f (traverse-asks w (l .last) (l .k) 0 (l .line)) in
-    record { place = omega (arith, x .1); held = l .inv .1; room = omega arith }
+    let e = length-take-le (l .have) (l .buf) (l .inv .2) in
+    let s = c .before .before .before .before .step in
+    let f = ap (λ (y : Leaves TraverseStep). y .answer .answer) (sym (s .ensures)) ∙ c .answer2 .given .1 in
+    let x = subst (Step-stands 0 (length w)) f (traverse-stands w (l .last) (length w) (omega arith) (held (l .k) (l .points)) 0 (l .line) (omega arith)) in
+    let y = subst (Asks (length w)) f (traverse-asks w (l .last) (held (l .k) (l .points)) 0 (l .line)) in
+    record { place = omega (arith, x .1); held = l .inv .2; room = omega arith }
 
 start-requires : tie.Need-start-requires Inv-loop μ-loop
 start-requires c κs = search needs
@@ -44,7 +48,7 @@ slice-reshare-prefix-step : tie.Need-slice-reshare-prefix-step Inv-loop μ-loop
 slice-reshare-prefix-step c = search needs
 
 slice-aggregate-step : tie.Need-slice-aggregate-step Inv-loop μ-loop
-slice-aggregate-step c = sym (length-take-le (c .before .before .loop .have) (c .before .before .loop .buf) (c .before .before .loop .inv .1))
+slice-aggregate-step c = sym (length-take-le (c .before .before .loop .have) (c .before .before .loop .buf) (c .before .before .loop .inv .2))
 
 step-requires : tie.Need-step-requires Inv-loop μ-loop
 step-requires c κs = search needs
@@ -52,26 +56,36 @@ step-requires c κs = search needs
 enum-told : tie.Need-enum-told Inv-loop μ-loop
 enum-told c = search needs
 
-load-of-requires : tie.Need-load-of-requires Inv-loop μ-loop
-load-of-requires c κs = search needs
+file-of-requires : tie.Need-file-of-requires Inv-loop μ-loop
+file-of-requires c κs = search needs
 
 same-length : tie.Need-same-length Inv-loop μ-loop
 same-length c = search needs
 
+same-length-2 : tie.Need-same-length-2 Inv-loop μ-loop
+same-length-2 c = search needs
+
 returns : tie.Need-returns Inv-loop μ-loop
-returns c = search needs
+returns c =
+    let l = c .before .before .before .before .before .before .before .before .before .loop in
+    let s = c .before .before .before .before .before .step in
+    file-has (c .file-of .result) Read (s .result .known) _ (c .file-of .ensures)
+    (read-has (take (l .have) (l .buf)) (l .last) (held (l .k) (l .points)) 0 (l .line) (s .result) _ (s .ensures) (c .before .enum-told .given .1))
 
 enum-known-answer : tie.Need-enum-known-answer Inv-loop μ-loop
 enum-known-answer c = search needs
 
-load-of-requires-2 : tie.Need-load-of-requires-2 Inv-loop μ-loop
-load-of-requires-2 c κs = search needs
+file-of-requires-2 : tie.Need-file-of-requires-2 Inv-loop μ-loop
+file-of-requires-2 c κs = search needs
 
-same-length-2 : tie.Need-same-length-2 Inv-loop μ-loop
-same-length-2 c = search needs
+same-length-3 : tie.Need-same-length-3 Inv-loop μ-loop
+same-length-3 c = search needs
+
+same-length-4 : tie.Need-same-length-4 Inv-loop μ-loop
+same-length-4 c = search needs
 
 returns-2 : tie.Need-returns-2 Inv-loop μ-loop
-returns-2 c = search needs
+returns-2 c = file-has (c .file-of2 .result) _ (c .before .before .before .before .before .before .step .result .known) _ (c .file-of2 .ensures) tt
 
 enum-known-answer-2 : tie.Need-enum-known-answer-2 Inv-loop μ-loop
 enum-known-answer-2 c = search needs
@@ -88,14 +102,17 @@ slice-aggregate-fail c = search needs
 fail-requires : tie.Need-fail-requires Inv-loop μ-loop
 fail-requires c κs = search needs
 
-load-of-requires-3 : tie.Need-load-of-requires-3 Inv-loop μ-loop
-load-of-requires-3 c κs = search needs
+file-of-requires-3 : tie.Need-file-of-requires-3 Inv-loop μ-loop
+file-of-requires-3 c κs = search needs
 
-same-length-3 : tie.Need-same-length-3 Inv-loop μ-loop
-same-length-3 c = search needs
+same-length-5 : tie.Need-same-length-5 Inv-loop μ-loop
+same-length-5 c = search needs
+
+same-length-6 : tie.Need-same-length-6 Inv-loop μ-loop
+same-length-6 c = search needs
 
 returns-3 : tie.Need-returns-3 Inv-loop μ-loop
-returns-3 c = search needs
+returns-3 c = file-has (c .file-of3 .result) Failed (c .before .before .before .before .before .before .before .before .before .before .before .before .before .before .step .result .known) _ (c .file-of3 .ensures) tt
 
 enum-known-n : tie.Need-enum-known-n Inv-loop μ-loop
 enum-known-n c = search needs
@@ -104,19 +121,22 @@ loop-less : tie.Need-loop-less Inv-loop μ-loop
 loop-less c = search needs
 
 loop-again : tie.Need-loop-again Inv-loop μ-loop
-loop-again c = (
-  search needs,
-  subst (λ (x : Filled). Refilled x (c .before .before .before .before .before .before .before .before .before .before .before .before .before .before .loop .buf) (c .before .before .before .before .before .refill .last .1 .0) (c .before .before .before .before .before .before .before .before .answer2 .given .0 .0 .at) (c .before .before .before .before .before .before .before .before .before .before .before .before .before .before .loop .have)) (c .before .n .given .1) (c .before .before .before .before .before .refill .ensures) .0,
-)
+loop-again c =
+    let l = c .before .before .before .before .before .before .before .before .before .before .before .before .before .before .before .before .loop in
+    let e = subst (λ (x : Filled). Refilled x (l .buf) (c .before .before .before .before .before .refill .last .1 .0) (c .before .before .before .before .before .before .before .before .answer2 .given .0 .0 .at) (l .have)) (c .before .n .given .1) (c .before .before .before .before .before .refill .ensures) in
+    (search needs, search needs, e .0)
 
-load-of-requires-4 : tie.Need-load-of-requires-4 Inv-loop μ-loop
-load-of-requires-4 c κs = search needs
+file-of-requires-4 : tie.Need-file-of-requires-4 Inv-loop μ-loop
+file-of-requires-4 c κs = search needs
 
-same-length-4 : tie.Need-same-length-4 Inv-loop μ-loop
-same-length-4 c = search needs
+same-length-7 : tie.Need-same-length-7 Inv-loop μ-loop
+same-length-7 c = search needs
+
+same-length-8 : tie.Need-same-length-8 Inv-loop μ-loop
+same-length-8 c = search needs
 
 returns-4 : tie.Need-returns-4 Inv-loop μ-loop
-returns-4 c = search needs
+returns-4 c = file-has (c .file-of4 .result) Failed (c .before .before .loop .k) _ (c .file-of4 .ensures) tt
 
 pub load-traverse-spec : {M : Type 1} → statement M
 load-traverse-spec =
@@ -131,24 +151,28 @@ load-traverse-spec =
     slice-aggregate-step
     step-requires
     enum-told
-    load-of-requires
+    file-of-requires
     same-length
+    same-length-2
     returns
     enum-known-answer
-    load-of-requires-2
-    same-length-2
+    file-of-requires-2
+    same-length-3
+    same-length-4
     returns-2
     enum-known-answer-2
     refill-requires
     enum-told-2
     slice-aggregate-fail
     fail-requires
-    load-of-requires-3
-    same-length-3
+    file-of-requires-3
+    same-length-5
+    same-length-6
     returns-3
     enum-known-n
     loop-less
     loop-again
-    load-of-requires-4
-    same-length-4
+    file-of-requires-4
+    same-length-7
+    same-length-8
     returns-4)

@@ -1,6 +1,8 @@
 -- `hydrograph::accept` meets its contract. Assumes nothing.
 use mir.Facts.{toZ-ofZ}
-use Rattle.hydrograph.proofs.TurnLaws.{says-next, says-full}
+use native.Mathlib.Omega.{arith}
+use Rattle.listing.proofs.Lines.{record-most}
+use Rattle.hydrograph.proofs.TurnLaws.{put-line, never-full}
 use borrow.Author.Needs.{needs}
 use Rattle.hydrograph.proofs.accept.Statement.{statement}
 use Rattle.hydrograph.proofs.accept.Tie as tie
@@ -22,7 +24,8 @@ returns c =
     let p = c .before .before .before .before .before in
     let s = c .before .before .before .before .before .before .before .before in
     let e = simp (toZ-ofZ, s .fits .elapsed, s .fits .low, s .fits .high) at (p .put-record .ensures) in
-    says-next (s .args .n) _ (s .args .used) (s .args .run) _ _ _ e (s .args .later) _ (c .before .k .given .1)
+    let m = record-most (s .args .elapsed) (s .args .low) (s .args .high) (s .fits .elapsed) (s .fits .low) (s .fits .high) in
+    put-line _ (s .args .used) _ _ _ (omega arith) (s .pre) e (s .args .later) _ (c .before .k .given .1)
 
 same-length-2 : tie.Need-same-length-2
 same-length-2 c = search needs
@@ -32,7 +35,8 @@ returns-2 c =
     let p = c .before .before .before .before in
     let s = c .before .before .before .before .before .before .before in
     let e = simp (toZ-ofZ, s .fits .elapsed, s .fits .low, s .fits .high) at (p .put-record .ensures) in
-    says-full (s .args .n) _ (s .args .used) (s .args .run) _ _ _ e (s .args .later) (c .enum-told .given .1)
+    let m = record-most (s .args .elapsed) (s .args .low) (s .args .high) (s .fits .elapsed) (s .fits .low) (s .fits .high) in
+    absurd (never-full _ (s .args .used) _ _ _ (omega arith) (s .pre) e (c .enum-told .given .1))
 
 pub accept-spec : {M : Type 1} → statement M
 accept-spec =

@@ -1,5 +1,7 @@
 -- `hydrograph::names` meets its contract. Assumes nothing.
-use Rattle.hydrograph.proofs.TurnLaws.{says-next, says-full}
+use native.Mathlib.Omega.{arith}
+use Rattle.listing.specs.Lines.{namesLine}
+use Rattle.hydrograph.proofs.TurnLaws.{put-line, never-full}
 use borrow.Author.Needs.{needs}
 use Rattle.hydrograph.proofs.names.Statement.{statement}
 use Rattle.hydrograph.proofs.names.Tie as tie
@@ -20,7 +22,7 @@ returns : tie.Need-returns
 returns c =
     let p = c .before .before .before .before .before in
     let s = c .before .before .before .before .before .before .before .before in
-    says-next (s .args .n) _ (s .args .used) (s .args .run) _ _ _ (p .put-names .ensures) (s .args .run) _ (c .before .k .given .1)
+    put-line namesLine (s .args .used) _ _ _ (omega arith) (s .pre) (p .put-names .ensures) (s .args .run) _ (c .before .k .given .1)
 
 same-length-2 : tie.Need-same-length-2
 same-length-2 c = search needs
@@ -29,7 +31,7 @@ returns-2 : tie.Need-returns-2
 returns-2 c =
     let p = c .before .before .before .before in
     let s = c .before .before .before .before .before .before .before in
-    says-full (s .args .n) _ (s .args .used) (s .args .run) _ _ _ (p .put-names .ensures) (s .args .run) (c .enum-told .given .1)
+    absurd (never-full namesLine (s .args .used) _ _ _ (omega arith) (s .pre) (p .put-names .ensures) (c .enum-told .given .1))
 
 pub names-spec : {M : Type 1} → statement M
 names-spec =

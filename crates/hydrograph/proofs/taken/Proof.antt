@@ -1,14 +1,40 @@
 -- `hydrograph::taken` meets its contract. Assumes nothing.
+use mathlib.Core.Path.{ap}
 use mir.Facts.{toZ-ofZ}
 use mir.Syntax.{w64}
 use mir.Val.{SFits}
-use Rattle.hydrograph.proofs.TurnLaws.{carry, said-refused, said-accepted}
-use borrow.Author.Needs.{needs, sfits-of}
+use denote.Ref.{now}
+use borrow.Author.Needs.{sfits-of}
+use Rattle.records.specs.Shapes.{traverse, count}
+use Rattle.reader.specs.Storm.{recordSize}
+use Rattle.hydrograph.proofs.TurnLaws.{record-is, taken-refused, taken-accepted}
+use borrow.Author.Needs.{needs}
 use Rattle.hydrograph.proofs.taken.Statement.{statement}
 use Rattle.hydrograph.proofs.taken.Tie as tie
 
-segments-requires : tie.Need-segments-requires
-segments-requires c κs = search needs
+whole-groups-requires : tie.Need-whole-groups-requires
+whole-groups-requires c κs = search needs
+
+mul-end : tie.Need-mul-end
+mul-end c = search needs
+
+add-end : tie.Need-add-end
+add-end c = search needs
+
+shared-slice-copy-out-t25 : tie.Need-shared-slice-copy-out-t25
+shared-slice-copy-out-t25 c = search needs
+
+shared-slice-copy-out-t27 : tie.Need-shared-slice-copy-out-t27
+shared-slice-copy-out-t27 c = search needs
+
+sub-take-record : tie.Need-sub-take-record
+sub-take-record c = search needs
+
+part-take-record-start : tie.Need-part-take-record-start
+part-take-record-start c = search needs
+
+part-take-record-end : tie.Need-part-take-record-end
+part-take-record-end c = search needs
 
 array-borrow-prefix-places : tie.Need-array-borrow-prefix-places
 array-borrow-prefix-places c = search needs
@@ -22,12 +48,6 @@ take-record-requires c κs = search needs
 enum-known-answer : tie.Need-enum-known-answer
 enum-known-answer c = search needs
 
-number-requires : tie.Need-number-requires
-number-requires c κs = search needs
-
-place-requires : tie.Need-place-requires
-place-requires c κs = search needs
-
 refuse-requires : tie.Need-refuse-requires
 refuse-requires c κs = search needs
 
@@ -40,50 +60,67 @@ accept-requires c κs = search needs
 same-length : tie.Need-same-length
 same-length c = search needs
 
-returns : tie.Need-returns
-returns c =
-    let f = c .before .before in
-    let a = c .before .before .before .before .before .before .before in
-    let k = c .before .before .before .before .before .before .before .before .before .before .before .before in
-    let n = k .before .before .before in
-    let s = n .before .before in
-    carry _ _ _ _ (s .args .used) (s .args .run) _ _ _ (n .segments .ensures)
-    (said-refused (s .args .t) (s .args .r) (s .args .c) (s .args .run .state) (s .args .run .rows) _ _ _ (n .segments .ensures) (k .take-record .ensures) _ _ _ (a .answer .given .1) (c .before .before .before .before .number .ensures) (c .before .before .before .place .ensures))
-    (f .refuse .ensures)
-
 same-length-2 : tie.Need-same-length-2
 same-length-2 c = search needs
 
+returns : tie.Need-returns
+returns c =
+    let x = c .before .before in
+    let k = c .before .before .before .before .before .before .before .before .before .before in
+    let g = c .before .before .before .before .before .before .before .before .before .before .before .before .before .before .before .before .before in
+    let s = c .before .before .before .before .before .before .before .before .before .before .before .before .before .before .before .before .before .before .before in
+    let t = traverse (s .args .head) (now (s .args .points)) in
+    let e = record-is (count t) (recordSize (g .whole-groups .result)) (now (s .args .numbers)) _ _ (ap recordSize (g .whole-groups .ensures)) (s .pre .1)
+    (toZ-ofZ (sfits-of (c .before .before .before .before .before .before .before .before .before .before .before .before .before .before .before .before .t25 .given))) (toZ-ofZ (sfits-of (c .before .before .before .before .before .before .before .before .before .before .before .before .before .before .before .t27 .given))) in
+    taken-refused t _ _ (s .args .c .at) (s .args .c .line) (s .args .run .state) _ _ _ (k .take-record .result) e (k .take-record .ensures)
+    (x .refuse .result) (s .args .run) _ _ _ (s .args .used) _ (c .before .before .before .before .before .answer .given .1) (x .refuse .ensures .0) (x .refuse .ensures .1)
+
+same-length-3 : tie.Need-same-length-3
+same-length-3 c = search needs
+
+same-length-4 : tie.Need-same-length-4
+same-length-4 c = search needs
+
 returns-2 : tie.Need-returns-2
 returns-2 c =
-    let f = c .before .before in
+    let x = c .before .before in
     let a = c .before .before .before .before .before in
-    let g = c .before .before .before .before .known-told2 .given in
-    let fe : SFits w64 (a .answer2 .given .0 .0) = sfits-of (g .0 .1) in
-    let fl : SFits w64 (a .answer2 .given .0 .1 .0) = sfits-of (g .1 .0 .1) in
-    let fh : SFits w64 (a .answer2 .given .0 .1 .1 .0) = sfits-of (g .1 .1 .0 .1) in
+    let q = c .before .before .before .before .known-told2 .given in
+    let fe : SFits w64 (a .answer2 .given .0 .0) = sfits-of (q .0 .1) in
+    let fl : SFits w64 (a .answer2 .given .0 .1 .0) = sfits-of (q .1 .0 .1) in
+    let fh : SFits w64 (a .answer2 .given .0 .1 .1 .0) = sfits-of (q .1 .1 .0 .1) in
+    let d = simp (toZ-ofZ, fe, fl, fh) at (x .accept .ensures) in
     let k = c .before .before .before .before .before .before .before .before .before .before in
-    let n = k .before .before .before in
-    let s = n .before .before in
-    carry _ _ _ _ (s .args .used) (s .args .run) _ _ _ (n .segments .ensures)
-    (said-accepted (s .args .t) (s .args .r) (s .args .c) (s .args .run .state) (s .args .run .rows) _ _ _ (n .segments .ensures) (k .take-record .ensures) _ _ _ (a .answer2 .given .1))
-    (simp (toZ-ofZ, fe, fl, fh) at (f .accept .ensures))
+    let g = c .before .before .before .before .before .before .before .before .before .before .before .before .before .before .before .before .before in
+    let s = c .before .before .before .before .before .before .before .before .before .before .before .before .before .before .before .before .before .before .before in
+    let t = traverse (s .args .head) (now (s .args .points)) in
+    let e = record-is (count t) (recordSize (g .whole-groups .result)) (now (s .args .numbers)) _ _ (ap recordSize (g .whole-groups .ensures)) (s .pre .1)
+    (toZ-ofZ (sfits-of (c .before .before .before .before .before .before .before .before .before .before .before .before .before .before .before .before .t25 .given))) (toZ-ofZ (sfits-of (c .before .before .before .before .before .before .before .before .before .before .before .before .before .before .before .t27 .given))) in
+    taken-accepted t _ _ (s .args .c .at) (s .args .c .line) (s .args .run .state) _ _ _ (k .take-record .result) e (k .take-record .ensures)
+    (x .accept .result) (s .args .run) _ _ _ (s .args .used) _ _ _ (a .answer2 .given .1) (d .0) (d .1)
 
 pub taken-spec : {M : Type 1} → statement M
 taken-spec =
     tie.close
     (tie.spec
-    segments-requires
+    whole-groups-requires
+    mul-end
+    add-end
+    shared-slice-copy-out-t25
+    shared-slice-copy-out-t27
+    sub-take-record
+    part-take-record-start
+    part-take-record-end
     array-borrow-prefix-places
     slice-aggregate-take-record
     take-record-requires
     enum-known-answer
-    number-requires
-    place-requires
     refuse-requires
     enum-known-answer-2
     accept-requires
     same-length
-    returns
     same-length-2
+    returns
+    same-length-3
+    same-length-4
     returns-2)

@@ -4,7 +4,7 @@ use native.Mathlib.Omega.{arith}
 use lib.ListN.{length}
 use mir.Facts.{toZ-ofZ}
 use borrow.Author.Needs.{needs}
-use Rattle.listing.specs.Decimal.{signedOf}
+use Rattle.listing.specs.Decimal.{signedText}
 use Rattle.listing.proofs.Lines.{record-length}
 use Rattle.listing.proofs.record_count.Statement.{statement}
 use Rattle.listing.proofs.record_count.Tie as tie
@@ -30,13 +30,13 @@ add-result-3 c = search needs
 returns : tie.Need-returns
 returns c =
     let x = c .before .before .before in
-    let e : c .before .before .signed-count .result ≡ length (signedOf (x .args .elapsed)) =
+    let e : c .before .before .signed-count .result ≡ length (signedText (x .args .elapsed)) =
     simp (toZ-ofZ, x .fits .elapsed) at (c .before .before .signed-count .ensures .0)
     in
-    let l : c .before .signed-count2 .result ≡ length (signedOf (x .args .low)) =
+    let l : c .before .signed-count2 .result ≡ length (signedText (x .args .low)) =
     simp (toZ-ofZ, x .fits .low) at (c .before .signed-count2 .ensures .0)
     in
-    let h : c .signed-count3 .result ≡ length (signedOf (x .args .high)) =
+    let h : c .signed-count3 .result ≡ length (signedText (x .args .high)) =
     simp (toZ-ofZ, x .fits .high) at (c .signed-count3 .ensures .0)
     in
     omega (arith, record-length (x .args .elapsed) (x .args .low) (x .args .high))

@@ -6,7 +6,7 @@ use lib.ListN.{length}
 use lib.IntN.{natAbs}
 use mir.Facts.{toZ-ofZ}
 use borrow.Author.Needs.{needs}
-use Rattle.listing.specs.Decimal.{decimalOf, signedOf}
+use Rattle.listing.specs.Decimal.{decimalOf, signedText}
 use Rattle.listing.proofs.Signed.{below, above}
 use Rattle.listing.proofs.signed_count.Statement.{statement}
 use Rattle.listing.proofs.signed_count.Tie as tie
@@ -30,14 +30,14 @@ returns : tie.Need-returns
 returns c =
     let x = c .before .before .before in
     let b = below _ (x .fits .x) (simp (toZ-ofZ, x .fits .x) at (c .if1 .taken)) in
-    let e : length (signedOf (x .args .x)) ≡ suc (length (decimalOf (natAbs (x .args .x)))) = ap length (b .spelt) in
+    let e : length (signedText (x .args .x)) ≡ suc (length (decimalOf (natAbs (x .args .x)))) = ap length (b .spelt) in
     omega (arith, counted (c .before))
 
 returns-2 : tie.Need-returns-2
 returns-2 c =
     let x = c .before .before .before in
     let b = above _ (x .fits .x) (simp (toZ-ofZ, x .fits .x) at (c .if1 .left)) in
-    let e : length (signedOf (x .args .x)) ≡ length (decimalOf (natAbs (x .args .x))) = ap length (b .spelt) in
+    let e : length (signedText (x .args .x)) ≡ length (decimalOf (natAbs (x .args .x))) = ap length (b .spelt) in
     omega (arith, counted (c .before))
 
 pub signed-count-spec : {M : Type 1} → statement M

@@ -1,7 +1,7 @@
 -- `listing::size_of` meets its contract. Assumes nothing.
 use mathlib.Core.Path.{_≡_}
 use native.Mathlib.Omega.{arith}
-use lib.IntN.{ℤ, pos, _+ℤ_, _-ℤ_}
+use lib.IntN.{pos, _+ℤ_, _-ℤ_}
 use lib.Signed.{mag}
 use mir.Facts.{toZ-ofZ}
 use mir.Syntax.{w64}
@@ -10,7 +10,7 @@ use Rattle.listing.proofs.Signed.{Below, below, Above, above}
 use Rattle.listing.proofs.size_of.Statement.{statement}
 use Rattle.listing.proofs.size_of.Tie as tie
 
--- what is known of x below nought
+-- what is known of x below zero
 negative : (c : tie.Then1) → Below (c .before .args .x)
 negative c = below _ (c .before .fits .x) (simp (toZ-ofZ, c .before .fits .x) at (c .if1 .taken))
 
@@ -39,7 +39,7 @@ add-result c = rw (cast c) (omega (arith, negative c .small))
 returns : tie.Need-returns
 returns c = rw (cast c) (negative c .size)
 
--- what is known of x from nought on
+-- what is known of x from zero on
 other : (c : tie.Else1) → Above (c .before .args .x)
 other c = above _ (c .before .fits .x) (simp (toZ-ofZ, c .before .fits .x) at (c .if1 .left))
 

@@ -7,7 +7,7 @@ use denote.Ref.{now}
 use lib.ListN.{length}
 use mir.Facts.{toZ-ofZ}
 use borrow.Author.Needs.{needs}
-use Rattle.listing.specs.Decimal.{signedOf}
+use Rattle.listing.specs.Decimal.{signedText}
 use Rattle.listing.specs.Lines.{space, feed}
 use Rattle.listing.specs.Put.{Wrote}
 use Rattle.listing.proofs.Written.{wrote-next}
@@ -27,26 +27,26 @@ two c = c .before .before .before .before
 
 -- what each call wrote
 first : (c : tie.After-write-signed)
-    → Wrote (signedOf (start c .args .elapsed) ++ space)
+    → Wrote (signedText (start c .args .elapsed) ++ space)
     (start c .args .at) (now (start c .args .out)) (c .write-signed .result) (c .write-signed .last .0)
 first c = simp (toZ-ofZ, start c .fits .elapsed) at (c .write-signed .ensures)
 
 second : (c : tie.After-write-signed2)
-    → Wrote (signedOf (start (one c) .args .low) ++ space)
+    → Wrote (signedText (start (one c) .args .low) ++ space)
     (one c .write-signed .result) (one c .write-signed .last .0) (c .write-signed2 .result) (c .write-signed2 .last .0)
 second c = simp (toZ-ofZ, start (one c) .fits .low) at (c .write-signed2 .ensures)
 
 third : (c : tie.After-write-signed3)
-    → Wrote (signedOf (start (one (two c)) .args .high) ++ feed)
+    → Wrote (signedText (start (one (two c)) .args .high) ++ feed)
     (two c .write-signed2 .result) (two c .write-signed2 .last .0) (c .write-signed3 .result) (c .write-signed3 .last .0)
 third c = simp (toZ-ofZ, start (one (two c)) .fits .high) at (c .write-signed3 .ensures)
 
 -- where the first two values end
-end-first : (c : tie.After-write-signed) → c .write-signed .result ≡ start c .args .at + length (signedOf (start c .args .elapsed)) + 1
-end-first c = wrote-next (signedOf (start c .args .elapsed)) 32 (first c)
+end-first : (c : tie.After-write-signed) → c .write-signed .result ≡ start c .args .at + length (signedText (start c .args .elapsed)) + 1
+end-first c = wrote-next (signedText (start c .args .elapsed)) 32 (first c)
 
-end-second : (c : tie.After-write-signed2) → c .write-signed2 .result ≡ one c .write-signed .result + length (signedOf (start (one c) .args .low)) + 1
-end-second c = wrote-next (signedOf (start (one c) .args .low)) 32 (second c)
+end-second : (c : tie.After-write-signed2) → c .write-signed2 .result ≡ one c .write-signed .result + length (signedText (start (one c) .args .low)) + 1
+end-second c = wrote-next (signedText (start (one c) .args .low)) 32 (second c)
 
 write-signed-requires : tie.Need-write-signed-requires
 write-signed-requires c κs =

@@ -7,20 +7,20 @@ use denote.Ref.{now}
 use lib.ListN.{length, length-set, length-append}
 use mir.Facts.{toZ-ofZ}
 use borrow.Author.Needs.{needs}
-use Rattle.listing.specs.Decimal.{decimalOf, signedOf}
+use Rattle.listing.specs.Decimal.{decimalOf, signedText}
 use Rattle.listing.proofs.Signed.{below, above}
 use Rattle.listing.proofs.Written.{wrote-after}
 use Rattle.listing.proofs.write_signed.Statement.{statement}
 use Rattle.listing.proofs.write_signed.Tie as tie
 
 -- how x is spelt with the size that the code found
-minus : (c : tie.Then1) → signedOf (c .before .before .before .args .x) ≡ 45 ∷ decimalOf (c .before .size-of .result)
+minus : (c : tie.Then1) → signedText (c .before .before .before .args .x) ≡ 45 ∷ decimalOf (c .before .size-of .result)
 minus c =
     let x = c .before .before .before in
     below _ (x .fits .x) (simp (toZ-ofZ, x .fits .x) at (c .if1 .taken)) .spelt
     ∙ ap (λ (n : ℕ). 45 ∷ decimalOf n) (sym (simp (toZ-ofZ, x .fits .x) at (c .before .size-of .ensures)))
 
-plain : (c : tie.Else1) → signedOf (c .before .before .before .args .x) ≡ decimalOf (c .before .size-of .result)
+plain : (c : tie.Else1) → signedText (c .before .before .before .args .x) ≡ decimalOf (c .before .size-of .result)
 plain c =
     let x = c .before .before .before in
     above _ (x .fits .x) (simp (toZ-ofZ, x .fits .x) at (c .if1 .left)) .spelt
@@ -30,7 +30,7 @@ plain c =
 behind-minus : (c : tie.Then1)
     → c .before .before .before .args .at + 1 + length (decimalOf (c .before .size-of .result)) < length (now (c .before .before .before .args .out))
 behind-minus c =
-    let e : length (signedOf (c .before .before .before .args .x)) ≡ suc (length (decimalOf (c .before .size-of .result))) = ap length (minus c) in
+    let e : length (signedText (c .before .before .before .args .x)) ≡ suc (length (decimalOf (c .before .size-of .result))) = ap length (minus c) in
     omega (arith, c .before .before .before .pre)
 
 size-of-requires : tie.Need-size-of-requires

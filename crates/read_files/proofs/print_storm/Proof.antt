@@ -7,10 +7,10 @@ use Rattle.read_files.proofs.print_storm.Statement.{statement}
 use Rattle.read_files.proofs.print_storm.Tie as tie
 
 abbrev Inv-loop : tie.InvT-loop
-Inv-loop fd buf₀ n out₀ used turns₀ x₀ buf out turns x = (length buf ≡ length buf₀) × (length out ≡ length out₀) × Stands x (length buf) (length out)
+Inv-loop fd buf₀ n numbers₀ out₀ used turns₀ x₀ buf numbers out turns x = (length buf ≡ length buf₀) × (length numbers ≡ length numbers₀) × (length out ≡ length out₀) × Stands x (length buf) (length out)
 
 abbrev μ-loop : tie.MeasureT-loop
-μ-loop fd buf₀ n out₀ used turns₀ x₀ buf out turns x = turns
+μ-loop fd buf₀ n numbers₀ out₀ used turns₀ x₀ buf numbers out turns x = turns
 
 loop-holds : tie.Need-loop-holds Inv-loop μ-loop
 loop-holds c = search needs
@@ -27,6 +27,9 @@ same-length c = search needs
 same-length-2 : tie.Need-same-length-2 Inv-loop μ-loop
 same-length-2 c = search needs
 
+same-length-3 : tie.Need-same-length-3 Inv-loop μ-loop
+same-length-3 c = search needs
+
 returns : tie.Need-returns Inv-loop μ-loop
 returns c = search needs
 
@@ -36,11 +39,14 @@ loop-less c = search needs
 loop-again : tie.Need-loop-again Inv-loop μ-loop
 loop-again c = search needs
 
-same-length-3 : tie.Need-same-length-3 Inv-loop μ-loop
-same-length-3 c = search needs
-
 same-length-4 : tie.Need-same-length-4 Inv-loop μ-loop
 same-length-4 c = search needs
+
+same-length-5 : tie.Need-same-length-5 Inv-loop μ-loop
+same-length-5 c = search needs
+
+same-length-6 : tie.Need-same-length-6 Inv-loop μ-loop
+same-length-6 c = search needs
 
 returns-2 : tie.Need-returns-2 Inv-loop μ-loop
 returns-2 c = search needs
@@ -56,9 +62,11 @@ print-storm-spec =
     turn-requires
     same-length
     same-length-2
+    same-length-3
     returns
     loop-less
     loop-again
-    same-length-3
     same-length-4
+    same-length-5
+    same-length-6
     returns-2)

@@ -7,19 +7,16 @@ use Rattle.read_files.proofs.put_stations.Statement.{statement}
 use Rattle.read_files.proofs.put_stations.Tie as tie
 
 abbrev Inv-loop : tie.InvT-loop
-Inv-loop out₀ used n stations u₀ i₀ out u i = (length out ≡ length out₀) × (u ≤ length out)
+Inv-loop out₀ used points n u₀ i₀ out u i = (length out ≡ length out₀) × (u ≤ length out)
 
 abbrev μ-loop : tie.MeasureT-loop
-μ-loop out₀ used n stations u₀ i₀ out u i = n - i
+μ-loop out₀ used points n u₀ i₀ out u i = n - i
 
 loop-holds : tie.Need-loop-holds Inv-loop μ-loop
 loop-holds c = search needs
 
-mul-x : tie.Need-mul-x Inv-loop μ-loop
-mul-x c = search needs
-
-array-copy-out-x : tie.Need-array-copy-out-x Inv-loop μ-loop
-array-copy-out-x c = search needs
+station-at-requires : tie.Need-station-at-requires Inv-loop μ-loop
+station-at-requires c κs = search needs
 
 put-station-requires : tie.Need-put-station-requires Inv-loop μ-loop
 put-station-requires c κs = search needs
@@ -46,8 +43,7 @@ put-stations-spec =
     Inv-loop
     μ-loop
     loop-holds
-    mul-x
-    array-copy-out-x
+    station-at-requires
     put-station-requires
     add-i
     loop-less

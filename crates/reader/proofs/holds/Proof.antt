@@ -1,6 +1,6 @@
 -- `reader::holds` meets its contract. Assumes nothing.
 use Rattle.reader.specs.Lines.{holds}
-use Rattle.reader.proofs.StormLaws.{fits-leb, short-leb}
+use Rattle.reader.proofs.Laws.{fits-leb, short-leb}
 use Rattle.reader.proofs.holds.Statement.{statement}
 use Rattle.reader.proofs.holds.Tie as tie
 

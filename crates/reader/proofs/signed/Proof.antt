@@ -6,7 +6,7 @@ use lib.IntN.{pos, negℤ, _-ℤ_, +ℤ-idl}
 use mir.Syntax.{w64}
 use mir.Val.{SFits}
 use mir.ValLaws.{toZ-pos, toZ-ofZ}
-use Rattle.reader.specs.Text.{signedOf}
+use Rattle.reader.specs.Text.{signedValue}
 use borrow.Author.Needs.{needs}
 use Rattle.reader.proofs.signed.Statement.{statement}
 use Rattle.reader.proofs.signed.Tie as tie
@@ -25,13 +25,13 @@ sub-result : tie.Need-sub-result
 sub-result c = simp (toZ-pos w64 _ (c .before .pre)) (neg-fits _ (c .before .pre))
 
 returns : tie.Need-returns
-unfolding signedOf
+unfolding signedValue
 returns c =
     simp (toZ-pos w64 _ (c .before .pre), toZ-ofZ w64 _ (neg-fits _ (c .before .pre)), c .if1 .taken)
     (+ℤ-idl _)
 
 returns-2 : tie.Need-returns-2
-unfolding signedOf
+unfolding signedValue
 returns-2 c = simp (toZ-pos w64 _ (c .before .pre), c .if1 .left)
 
 pub signed-spec : {M : Type 1} → statement M

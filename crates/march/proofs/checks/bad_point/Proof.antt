@@ -1,28 +1,27 @@
 -- `march::checks::bad_point` meets its contract. Assumes nothing.
 use borrow.Author.Needs.{needs}
 use borrow.Author.Tests.{not-true, not-false}
-use mathlib.Core.Path.{_≡_, sym, _∙_}
+use mathlib.Core.Path.{_≡_, sym, ap, _∙_}
 use native.Mathlib.Omega.{arith}
 use Prim.Native.Nat.{_-_}
-use Rattle.march.specs.Checks.{pointOk}
+use Rattle.records.specs.Groups.{pointAt}
+use Rattle.records.specs.Limits.{pointOk}
+use Rattle.march.specs.Checks.{pointsOk}
 use Rattle.march.proofs.FirstBad.{SearchInv, search-start, search-on, search-hit, search-none}
 use Rattle.march.proofs.checks.bad_point.Statement.{statement}
 use Rattle.march.proofs.checks.bad_point.Tie as tie
 
 abbrev Inv-loop : tie.InvT-loop
-Inv-loop n r i₀ i = SearchInv (pointOk r) n i
+Inv-loop winds n i₀ i = SearchInv (pointsOk winds) n i
 
 abbrev μ-loop : tie.MeasureT-loop
-μ-loop n r i₀ i = n - i
+μ-loop winds n i₀ i = n - i
 
 loop-holds : tie.Need-loop-holds Inv-loop μ-loop
 loop-holds c = search-start _ _
 
-mul-point : tie.Need-mul-point Inv-loop μ-loop
-mul-point c = search needs
-
-element-copy-out-point : tie.Need-element-copy-out-point Inv-loop μ-loop
-element-copy-out-point c = search needs
+point-at-requires : tie.Need-point-at-requires Inv-loop μ-loop
+point-at-requires c κs = search needs
 
 point-ok-requires : tie.Need-point-ok-requires Inv-loop μ-loop
 point-ok-requires c κs = search needs
@@ -30,9 +29,10 @@ point-ok-requires c κs = search needs
 add-result : tie.Need-add-result Inv-loop μ-loop
 add-result c = search needs
 
-flag : (c : tie.After-point-ok Inv-loop μ-loop) → c .point-ok .result ≡ pointOk (c .before .before .before .before .args .t1) (c .before .before .before .loop .i)
-unfolding pointOk
-flag c = c .point-ok .ensures
+-- the flag is the definition's, at the group that was read
+flag : (c : tie.After-point-ok Inv-loop μ-loop) → let l = c .before .before .before in
+    c .point-ok .result ≡ pointOk (pointAt (l .before .args .winds .now) (l .loop .i))
+flag c = c .point-ok .ensures ∙ ap pointOk (c .before .point-at .ensures)
 
 returns : tie.Need-returns Inv-loop μ-loop
 returns c = let l = c .before .before .before .before in search-hit _ _ (l .loop .i) (l .loop .inv) (omega arith) (sym (flag (c .before)) ∙ not-true _ (c .if1 .taken))
@@ -50,18 +50,4 @@ returns-2 : tie.Need-returns-2 Inv-loop μ-loop
 returns-2 c = search-none _ _ _ (c .before .loop .inv) (omega arith)
 
 pub bad-point-spec : {M : Type 1} → statement M
-bad-point-spec =
-    tie.close
-    (tie.spec
-    Inv-loop
-    μ-loop
-    loop-holds
-    mul-point
-    element-copy-out-point
-    point-ok-requires
-    add-result
-    returns
-    add-i
-    loop-less
-    loop-again
-    returns-2)
+bad-point-spec = tie.close (tie.spec Inv-loop μ-loop loop-holds point-at-requires point-ok-requires add-result returns add-i loop-less loop-again returns-2)

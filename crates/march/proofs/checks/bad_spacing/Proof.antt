@@ -1,32 +1,34 @@
 -- `march::checks::bad_spacing` meets its contract: distances that passed check 6 are small. Assumes nothing.
 use borrow.Author.Needs.{needs}
 use borrow.Author.Tests.{not-true, not-false}
-use mathlib.Core.Path.{_≡_, sym, _∙_}
-use native.Mathlib.Omega.{arith}
+use mathlib.Core.Path.{_≡_, sym, subst, _∙_}
 use mathlib.Core.Bool.{Bool, _&&_, _||_, not}
+use mathlib.Core.List.{List}
+use native.Mathlib.Omega.{arith}
 use Prim.Native.Nat.{ℕ, _+_, _-_, _<_}
 use lib.Dec.{eqb}
-use lib.IntN.{pos, _-ℤ_}
+use lib.IntN.{ℤ, pos, _-ℤ_}
 use lib.Signed.{leZ-yes}
 use mir.Facts.{toZ-ofZ}
 use mir.Syntax.{w64}
 use mir.Val.{SFits}
 use Rattle.ranges.specs.Bounds.{Sized}
 use Rattle.ranges.proofs.Fits.{sized-fits}
-use Rattle.records.specs.declared.Traverse.{Traverse}
-use Rattle.march.specs.Limits.{inside, lengthOk}
-use Rattle.march.specs.Checks.{stationOk, stationAt, spacingOk}
-use Rattle.march.proofs.LimitLaws.{nn-sized}
+use Rattle.records.specs.declared.Station.{Station}
+use Rattle.records.specs.Groups.{stationAt}
+use Rattle.records.specs.Limits.{lengthOk, shoreOk}
+use Rattle.records.proofs.LimitLaws.{nn-sized}
+use Rattle.march.specs.Checks.{stationsOk, spacingOk}
 use Rattle.march.proofs.FirstBad.{SearchInv, search-start, search-on, search-hit, search-none, none-bad}
 use Rattle.march.proofs.ChecksPassed.{station-in}
 use Rattle.march.proofs.checks.bad_spacing.Statement.{statement}
 use Rattle.march.proofs.checks.bad_spacing.Tie as tie
 
 abbrev Inv-loop : tie.InvT-loop
-Inv-loop n t i₀ i = SearchInv (spacingOk t) n i
+Inv-loop points n i₀ i = SearchInv (spacingOk n points) n i
 
 abbrev μ-loop : tie.MeasureT-loop
-μ-loop n t i₀ i = n - i
+μ-loop points n i₀ i = n - i
 
 loop-holds : tie.Need-loop-holds Inv-loop μ-loop
 loop-holds c = search-start _ _
@@ -34,22 +36,19 @@ loop-holds c = search-start _ _
 place-before-requires : tie.Need-place-before-requires Inv-loop μ-loop
 place-before-requires c κs = search needs
 
-mul-before : tie.Need-mul-before Inv-loop μ-loop
-mul-before c = search needs
+station-at-requires : tie.Need-station-at-requires Inv-loop μ-loop
+station-at-requires c κs = omega arith
 
-element-copy-out-before : tie.Need-element-copy-out-before Inv-loop μ-loop
-element-copy-out-before c = search needs
+station-at-requires-2 : tie.Need-station-at-requires-2 Inv-loop μ-loop
+station-at-requires-2 c κs = omega arith
 
-mul-here : tie.Need-mul-here Inv-loop μ-loop
-mul-here c = search needs
-
-element-copy-out-here : tie.Need-element-copy-out-here Inv-loop μ-loop
-element-copy-out-here c = search needs
-
--- at a turn: the traverse, the place before it and its own
+-- at a turn: the place before it and its own, and the two points that were read
 module _ (c : tie.After-struct-told2 Inv-loop μ-loop) where
+  abbrev two : tie.After-station-at2 Inv-loop μ-loop
+  two = c .before .before
+
   abbrev turn : tie.After-place-before Inv-loop μ-loop
-  turn = c .before .before .before .before
+  turn = two .before .before
 
   abbrev start : tie.Start Inv-loop μ-loop
   start = turn .before .before .before
@@ -57,28 +56,33 @@ module _ (c : tie.After-struct-told2 Inv-loop μ-loop) where
   abbrev here : ℕ
   here = turn .before .before .loop .i
 
-  sized : (i : ℕ) → i < start .args .n → Sized (pos 6400) (stationAt (start .args .t1) i .distance)
-  sized i h = nn-sized (station-in (start .args .t1) i (none-bad (stationOk (start .args .t1)) (start .args .n) 0 (start .pre .1 .1) i (omega arith) (omega arith)) .distance)
+  sized : (i : ℕ) → i < start .args .n → Sized (pos 6400) (stationAt (start .args .points .now) i .distance)
+  sized i h = nn-sized (station-in (stationAt (start .args .points .now) i) (none-bad (stationsOk (start .args .points .now)) (start .args .n) 0 (start .pre .1) i (omega arith) (omega arith)) .distance)
 
-  fb : SFits w64 (stationAt (start .args .t1) (turn .place-before .result) .distance)
-  fb = sized-fits (leZ-yes tt) (sized (turn .place-before .result) (omega arith))
+  before-in : Sized (pos 6400) (two .before .station-at .result .distance)
+  before-in = subst (λ (s : Station). Sized (pos 6400) (s .distance)) (sym (two .before .station-at .ensures)) (sized (turn .place-before .result) (omega arith))
 
-  fh : SFits w64 (stationAt (start .args .t1) here .distance)
-  fh = sized-fits (leZ-yes tt) (sized here (omega arith))
+  here-in : Sized (pos 6400) (two .station-at2 .result .distance)
+  here-in = subst (λ (s : Station). Sized (pos 6400) (s .distance)) (sym (two .station-at2 .ensures)) (sized here (omega arith))
+
+  fb : SFits w64 (two .before .station-at .result .distance)
+  fb = sized-fits (leZ-yes tt) before-in
+
+  fh : SFits w64 (two .station-at2 .result .distance)
+  fh = sized-fits (leZ-yes tt) here-in
 
 spacing-ok-requires : tie.Need-spacing-ok-requires Inv-loop μ-loop
-spacing-ok-requires c κs = simp (toZ-ofZ, fb c, fh c) (omega arith, (sized c _ (omega arith), sized c _ (omega arith)))
+spacing-ok-requires c κs = simp (toZ-ofZ, fb c, fh c) (omega arith, (before-in c, here-in c))
 
-spacing-is : {b : Bool} {k n : ℕ} (t : Traverse) (i : ℕ) → k ≡ i - 1 → t .count ≡ n →
-    b ≡ ((eqb i 0 || lengthOk (stationAt t k .distance -ℤ stationAt t i .distance)) && (not (eqb (i + 1) n) || inside (pos 0) (pos 0) (stationAt t i .distance))) →
-    b ≡ spacingOk t i
+spacing-is : {f : Bool} {a b : Station} {k : ℕ} (n : ℕ) (l : List ℤ) (i : ℕ) → k ≡ i - 1 → a ≡ stationAt l k → b ≡ stationAt l i →
+    f ≡ ((eqb i 0 || lengthOk (a .distance -ℤ b .distance)) && (not (eqb (i + 1) n) || shoreOk (b .distance))) → f ≡ spacingOk n l i
 unfolding spacingOk
-spacing-is t i p q e = rw (p, ← q) at e
+spacing-is n l i p q r e = rw (q, r, p) at e
 
-flag : (c : tie.After-spacing-ok Inv-loop μ-loop) → c .spacing-ok .result ≡ spacingOk (start (c .before) .args .t1) (here (c .before))
+flag : (c : tie.After-spacing-ok Inv-loop μ-loop) → c .spacing-ok .result ≡ spacingOk (start (c .before) .args .n) (start (c .before) .args .points .now) (here (c .before))
 flag c =
     let b = c .before in
-    spacing-is (start b .args .t1) (here b) (turn b .place-before .ensures) (start b .pre .1 .0) (simp (toZ-ofZ, fb b, fh b) at (c .spacing-ok .ensures))
+    spacing-is (start b .args .n) (start b .args .points .now) (here b) (turn b .place-before .ensures) (two b .before .station-at .ensures) (two b .station-at2 .ensures) (simp (toZ-ofZ, fb b, fh b) at (c .spacing-ok .ensures))
 
 add-result : tie.Need-add-result Inv-loop μ-loop
 add-result c = search needs
@@ -110,10 +114,8 @@ bad-spacing-spec =
     μ-loop
     loop-holds
     place-before-requires
-    mul-before
-    element-copy-out-before
-    mul-here
-    element-copy-out-here
+    station-at-requires
+    station-at-requires-2
     spacing-ok-requires
     add-result
     returns

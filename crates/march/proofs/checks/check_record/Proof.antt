@@ -30,4 +30,5 @@ returns-3 c =
     rw (sym (e .before .times-ok .ensures) ∙ not-false _ (e .if1 .left), sym (c .before .bad-point .ensures) ∙ c .if2 .left)
 
 pub check-record-spec : {M : Type 1} → statement M
-check-record-spec = tie.close (tie.spec times-ok-requires returns bad-point-requires returns-2 returns-3)
+check-record-spec =
+    tie.close (tie.spec times-ok-requires returns bad-point-requires returns-2 returns-3)

@@ -4,6 +4,8 @@ use Rattle.march.specs.Checks.{openOf}
 use Rattle.march.proofs.checks.open_traverse.Statement.{statement}
 use Rattle.march.proofs.checks.open_traverse.Tie as tie
 
+-- `march::checks::open_traverse` meets its contract. Assumes nothing.
+
 check-traverse-requires : tie.Need-check-traverse-requires
 check-traverse-requires c κs = search needs
 

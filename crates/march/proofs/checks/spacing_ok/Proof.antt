@@ -6,7 +6,7 @@ use mathlib.Core.Bool.{_||_}
 use lib.Dec.{eqb}
 use lib.IntN.{_-ℤ_}
 use mir.Facts.{toZ-ofZ}
-use Rattle.march.specs.Limits.{lengthOk}
+use Rattle.records.specs.Limits.{lengthOk}
 use Rattle.march.proofs.checks.spacing_ok.Statement.{statement}
 use Rattle.march.proofs.checks.spacing_ok.Tie as tie
 

@@ -1,25 +1,25 @@
--- `march::accepted` meets its contract. Assumes nothing.
+-- `march::take::accepted` meets its contract. Assumes nothing.
+use borrow.Author.Needs.{needs}
 use borrow.Author.Needs.{needs, sfits-of}
-use mathlib.Core.Path.{_≡_, sym, _∙_}
+use mathlib.Core.Path.{_≡_, ap}
 use native.Mathlib.Omega.{arith}
-use Prim.Native.Nat.{ℕ, _≤_, _-_}
-use lib.ListN.{length, getD, take}
-use lib.IntN.{ℤ, pos, _+ℤ_}
+use Prim.Native.Nat.{_-_}
+use lib.IntN.{ℤ, _+ℤ_}
 use lib.Signed.{leZ-yes}
 use mir.Facts.{toZ-ofZ}
 use mir.Syntax.{w64}
 use mir.Val.{SFits}
 use Rattle.ranges.specs.declared.Range.{Range}
 use Rattle.ranges.proofs.Fits.{sized-fits, sized-add}
-use Rattle.march.specs.Take.{noLeg, lastSetup}
-use Rattle.march.proofs.TakeLaws.{last-is}
+use Rattle.segment.specs.declared.Leg.{Leg}
+use Rattle.march.specs.March.{legAt}
 use Rattle.march.proofs.take.accepted.Statement.{statement}
 use Rattle.march.proofs.take.accepted.Tie as tie
 
 -- the last leg's setup, and its sums with the base
 module _ (s : tie.Start) where
   abbrev last : Range
-  last = getD (s .args .t5) (s .args .n - 1) noLeg .setup
+  last = legAt (s .args .work .now) (s .args .n - 1) .setup
 
   low : SFits w64 (last .low)
   low = sized-fits (leZ-yes tt) (s .pre .last-in .low)
@@ -33,39 +33,38 @@ module _ (s : tie.Start) where
   high-base : SFits w64 (last .high +ℤ s .args .base)
   high-base = sized-fits (leZ-yes tt) (sized-add (s .pre .last-in .high) (s .pre .base-in))
 
+last-is : (c : tie.After-leg-at) → c .leg-at .result .setup ≡ last (c .before .before .before)
+last-is c = ap (λ (x : Leg). x .setup) (c .leg-at .ensures)
+
+elapsed : (c : tie.After-struct-told) → SFits w64 (c .before .before .args .st .elapsed)
+elapsed c = sfits-of (c .struct-told .given .0 .1)
+
 add-elapsed : tie.Need-add-elapsed
-add-elapsed c = search needs
+add-elapsed c = let s = c .before .before in simp (toZ-ofZ, elapsed c, s .fits .seconds) (s .pre .fits)
 
-sub-last : tie.Need-sub-last
-sub-last c = search needs
+sub-leg-at : tie.Need-sub-leg-at
+sub-leg-at c = search needs
 
-mul-last : tie.Need-mul-last
-mul-last c = search needs
+leg-at-requires : tie.Need-leg-at-requires
+leg-at-requires c κs = let s = c .before .before in omega (arith, s .pre .from, s .pre .work-long)
 
-array-copy-out-last : tie.Need-array-copy-out-last
-array-copy-out-last c = search needs
+add-t10 : tie.Need-add-t10
+add-t10 c =
+    let g = c .before .before .before in
+    let s = g .before .before .before in
+    rw (last-is g) (simp (toZ-ofZ, low s, s .fits .base) (low-base s))
 
-commit-rows-requires : tie.Need-commit-rows-requires
-commit-rows-requires c κs = search needs
-
-add-t18 : tie.Need-add-t18
-add-t18 c = let s = c .before .before .before .before .before .before .before in simp (toZ-ofZ, low s, s .fits .base) (low-base s)
-
-add-t19 : tie.Need-add-t19
-add-t19 c = let s = c .before .before .before .before .before .before .before .before .before in simp (toZ-ofZ, high s, s .fits .base) (high-base s)
+add-t11 : tie.Need-add-t11
+add-t11 c =
+    let g = c .before .before .before .before .before in
+    let s = g .before .before .before in
+    rw (last-is g) (simp (toZ-ofZ, high s, s .fits .base) (high-base s))
 
 returns : tie.Need-returns
 returns c =
-    let m = c .before .before .before .before in
-    let s = m .before .before .before .before .before in
-    let fe : SFits w64 (s .args .st .elapsed) = sfits-of (m .before .before .before .struct-told .given .0 .1) in
-    let k : length (s .args .t5) ≡ 64 = search needs in
-    let e : lastSetup (take (s .args .n) (s .args .t5)) ≡ last s = last-is (s .args .n) (s .args .t5) (s .pre .from) (omega arith) in
-    record {
-      answer = rw e (simp (toZ-ofZ, fe, s .fits .seconds, s .fits .base, s .pre .fits, low s, high s, low-base s, high-base s));
-      state = simp (toZ-ofZ, fe, s .fits .seconds, s .pre .fits);
-      rows = m .commit-rows .ensures;
-    }
+    let g = c .before .before .before .before .before in
+    let s = g .before .before .before in
+    rw (last-is g) (simp (toZ-ofZ, elapsed (g .before), s .fits .seconds, s .pre .fits, low s, high s, s .fits .base, low-base s, high-base s))
 
 pub accepted-spec : {M : Type 1} → statement M
-accepted-spec = tie.close (tie.spec add-elapsed sub-last mul-last array-copy-out-last commit-rows-requires add-t18 add-t19 returns)
+accepted-spec = tie.close (tie.spec add-elapsed sub-leg-at leg-at-requires add-t10 add-t11 returns)

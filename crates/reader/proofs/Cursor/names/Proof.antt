@@ -35,8 +35,13 @@ next-line-requires c κs = search needs
 loop-holds : tie.Need-loop-holds Inv-loop μ-loop
 loop-holds c = (omega arith, omega arith, refl)
 
+refused-requires : tie.Need-refused-requires Inv-loop μ-loop
+refused-requires c κs = search needs
+
 returns : tie.Need-returns Inv-loop μ-loop
-returns c = names-no _ _ _ _ _ (line-is (c .before .before)) (sym (whole (c .before .before)) ∙ spells-short _ _ _ _ (c .before .loop-test .taken) (c .if1 .taken))
+returns c =
+    let d = c .before .before .before in
+    c .refused .ensures ∙ names-no _ _ _ _ _ (line-is d) (sym (whole d) ∙ spells-short _ _ _ _ (c .before .before .loop-test .taken) (c .before .if1 .taken))
 
 shared-slice-read-if2 : tie.Need-shared-slice-read-if2 Inv-loop μ-loop
 shared-slice-read-if2 c = search needs
@@ -44,10 +49,14 @@ shared-slice-read-if2 c = search needs
 shared-slice-read-if2-2 : tie.Need-shared-slice-read-if2-2 Inv-loop μ-loop
 shared-slice-read-if2-2 c = search needs
 
+refused-requires-2 : tie.Need-refused-requires-2 Inv-loop μ-loop
+refused-requires-2 c κs = search needs
+
 returns-2 : tie.Need-returns-2 Inv-loop μ-loop
 returns-2 c =
-    let d = c .before .before .before .before .before in
-    names-no _ _ _ _ _ (line-is d) (sym (whole d) ∙ spells-not _ _ _ _ _ _ (c .before .before .before .before .loop-test .taken) (c .before .before .before .if1 .left) refl refl (c .if2 .taken))
+    let d = c .before .before .before .before .before .before in
+    c .refused2 .ensures
+    ∙ names-no _ _ _ _ _ (line-is d) (sym (whole d) ∙ spells-not _ _ _ _ _ _ (c .before .before .before .before .before .loop-test .taken) (c .before .before .before .before .if1 .left) refl refl (c .before .if2 .taken))
 
 add-at : tie.Need-add-at Inv-loop μ-loop
 add-at c = search needs
@@ -74,9 +83,11 @@ names-spec =
     μ-loop
     next-line-requires
     loop-holds
+    refused-requires
     returns
     shared-slice-read-if2
     shared-slice-read-if2-2
+    refused-requires-2
     returns-2
     add-at
     add-i

@@ -1,5 +1,5 @@
 -- `reader::traverse::Known::end` meets its contract. Assumes nothing.
-use Rattle.reader.proofs.TraverseLaws.{end-names, end-values, end-columns, end-none, end-read}
+use Rattle.reader.proofs.TraverseLaws.{end-names, end-values, end-columns, end-points}
 use borrow.Author.Needs.{needs}
 use Rattle.reader.proofs.traverse.Known.end.Statement.{statement}
 use Rattle.reader.proofs.traverse.Known.end.Tie as tie
@@ -28,23 +28,20 @@ refused-step-requires-3 c κs = search needs
 enum-told-4 : tie.Need-enum-told-4
 enum-told-4 c = search needs
 
-refused-step-requires-4 : tie.Need-refused-step-requires-4
-refused-step-requires-4 c κs = search needs
+counted-requires : tie.Need-counted-requires
+counted-requires c κs = search needs
 
 returns : tie.Need-returns
-returns c = end-none _ _ _ _ (c .before .before .before .enum-told4 .given .1) (c .before .if1 .taken) (c .refused-step4 .ensures)
+returns c = end-names _ _ _ _ _ _ (c .before .before .enum-told .given .1) (c .before .more .ensures) (c .refused-step .ensures)
 
 returns-2 : tie.Need-returns-2
-returns-2 c = end-names _ _ _ _ _ (c .before .before .enum-told .given .1) (c .before .more .ensures) (c .refused-step .ensures)
+returns-2 c = end-values _ _ _ _ _ (c .before .enum-told2 .given .1) (c .refused-step2 .ensures)
 
 returns-3 : tie.Need-returns-3
-returns-3 c = end-values _ _ _ _ (c .before .enum-told2 .given .1) (c .refused-step2 .ensures)
+returns-3 c = end-columns _ _ _ _ _ (c .before .enum-told3 .given .1) (c .refused-step3 .ensures)
 
 returns-4 : tie.Need-returns-4
-returns-4 c = end-columns _ _ _ _ (c .before .enum-told3 .given .1) (c .refused-step3 .ensures)
-
-returns-5 : tie.Need-returns-5
-returns-5 c = end-read _ _ _ (c .before .before .enum-told4 .given .1) (c .if1 .left)
+returns-4 c = end-points _ _ _ _ _ (c .before .enum-told4 .given .1) (c .counted .ensures)
 
 pub end-spec : {M : Type 1} → statement M
 end-spec =
@@ -58,9 +55,8 @@ end-spec =
     enum-told-3
     refused-step-requires-3
     enum-told-4
-    refused-step-requires-4
+    counted-requires
     returns
     returns-2
     returns-3
-    returns-4
-    returns-5)
+    returns-4)

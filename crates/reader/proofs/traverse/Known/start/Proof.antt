@@ -4,12 +4,12 @@ use borrow.Author.Needs.{needs}
 use Rattle.reader.proofs.traverse.Known.start.Statement.{statement}
 use Rattle.reader.proofs.traverse.Known.start.Tie as tie
 
-no-traverse-requires : tie.Need-no-traverse-requires
-no-traverse-requires c κs = search needs
+no-head-requires : tie.Need-no-head-requires
+no-head-requires c κs = search needs
 
 returns : tie.Need-returns
 unfolding start
-returns c = rw (c .no-traverse .ensures)
+returns c = rw (c .no-head .ensures)
 
 pub start-spec : {M : Type 1} → statement M
-start-spec = tie.close (tie.spec no-traverse-requires returns)
+start-spec = tie.close (tie.spec no-head-requires returns)

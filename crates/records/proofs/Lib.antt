@@ -1,0 +1,3 @@
+-- The laws of `records`.
+pub mod LimitLaws
+pub mod GroupLaws
