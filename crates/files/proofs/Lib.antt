@@ -1,4 +1,6 @@
--- The laws that the proofs of `files` and of the programs cite.
-pub mod Laws
+-- The laws that the proofs of `files` share, and what reading a traverse file comes to. Assumes nothing.
 pub mod Asks
+pub mod Ending
+pub mod Laws
 pub mod PointsRead
+pub mod Reached

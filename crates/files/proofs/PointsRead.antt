@@ -1,34 +1,37 @@
--- A traverse that was read has two points or more, and all of them have their place in the lent numbers. Assumes nothing.
-use mathlib.Core.Path.{_≡_, sym, ap, subst, _∙_}
-use mathlib.Core.Bool.{Bool}
+-- A traverse that was read has 2 to 65 points, and all of them have their place in the lent numbers. Assumes nothing.
+use mathlib.Core.Path.{_≡_, refl, sym, subst}
 use mathlib.Core.List.{List}
 use native.Mathlib.Omega.{arith}
 use Prim.Native.Nat.{ℕ}
-use lib.ListN.{length}
+use lib.ListN.{length, take}
 use lib.IntN.{ℤ}
 use Rattle.records.specs.Limits.{mostPoints}
 use Rattle.records.proofs.GroupLaws.{wholes-fit}
-use Rattle.reader.specs.declared.traverse.Known.{Known}
+use Rattle.reader.specs.declared.traverse.Progress.{Progress}
 use Rattle.reader.specs.declared.traverse.Progress.the-variants as progress
-use Rattle.reader.specs.declared.traverse.TraverseStep.{TraverseStep}
-use Rattle.reader.specs.Lines.{Leaves, leaves}
-use Rattle.reader.specs.Traverse.{Held, traverseStep}
 use Rattle.reader.specs.Lent.{HasTraverse}
 use Rattle.reader.proofs.StormLaws.{counts-in}
 use Rattle.reader.proofs.TraverseLent.{step-has-traverse}
-use Rattle.files.specs.declared.Loaded.{Loaded}
 use Rattle.files.specs.declared.Loaded.the-variants.{Read}
 use Rattle.files.specs.declared.TraverseFile.{TraverseFile}
-use Rattle.files.specs.TraverseFile.{fileOf, HasPoints}
+use Rattle.files.specs.TraverseFile.{loadedBy, Reading, stepOf, Loads, HasPoints}
 
 -- of what a step answered and left
-pub read-has : (w : List ℕ) (last : Bool) (h : Held) (at line : ℕ) (x : TraverseStep) (out : List ℤ) → leaves x out ≡ traverseStep w last h at line → x .answer ≡ progress.Read →
-    HasPoints Read (x .known .count) (length out)
-read-has w last h at line x out e f =
-    let found = step-has-traverse w last h at line (sym (ap (λ (y : Leaves TraverseStep). y .answer .answer) e) ∙ f) in
-    let has : HasTraverse (x .known .count) out = subst (λ (y : Leaves TraverseStep). HasTraverse (y .answer .known .count) (y .numbers)) (sym e) found in
-    (counts-in mostPoints (x .known .count) (has .counted) .0, omega (arith, has .room, wholes-fit 2 (length out)))
+read-has : (x : Reading) → stepOf x .answer .answer ≡ progress.Read → HasPoints Read (stepOf x .answer .known .count) (length (stepOf x .numbers))
+unfolding stepOf
+read-has x e =
+    let s = stepOf x in
+    let has : HasTraverse (s .answer .known .count) (s .numbers) = step-has-traverse (take (x .have) (x .window)) (x .last) (x .held) 0 (x .line) e in
+    let n = counts-in mostPoints (s .answer .known .count) (has .counted) in
+    (n .0, omega (arith, has .room, wholes-fit 2 (length (s .numbers))), n .1)
 
--- and of what the call answers
-pub file-has : (x : TraverseFile) (answer : Loaded) (known : Known) (size : ℕ) → x ≡ fileOf answer known → HasPoints answer (known .count) size → HasPoints (x .answer) (x .count) size
-file-has x answer known size e h = subst (λ (y : TraverseFile). HasPoints (y .answer) (y .count) size) (sym e) h
+-- and so of what the call answers
+pub loads-has : (fd : ℤ) (window : List ℕ) (points : List ℤ) (r : TraverseFile) (window′ : List ℕ) (points′ : List ℤ) → Loads fd window points r window′ points′ → HasPoints (r .answer) (r .count) (length points′)
+loads-has fd window points r window′ points′ l =
+    subst (λ (f : TraverseFile). HasPoints (f .answer) (f .count) (length points′)) (sym (l .file))
+    (subst (λ (p : List ℤ). HasPoints (loadedBy (stepOf (l .at) .answer .answer)) (stepOf (l .at) .answer .known .count) (length p)) (sym (l .points-left)) (go (stepOf (l .at) .answer .answer) refl))
+  where
+    go : (p : Progress) → stepOf (l .at) .answer .answer ≡ p → HasPoints (loadedBy p) (stepOf (l .at) .answer .known .count) (length (stepOf (l .at) .numbers))
+    go progress.Read e = read-has (l .at) e
+    go (progress.More c) e = tt
+    go (progress.Refused q) e = tt

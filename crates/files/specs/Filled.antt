@@ -1,13 +1,16 @@
 -- When a window may be refilled, and what it then holds: the bytes that were left of it at its front, and no more than it has room for; and when
--- the text counts as ended. Assumes nothing.
+-- the text counts as ended. And what writing the output answers. Assumes nothing.
 use mathlib.Core.Path.{_≡_}
+use mathlib.Core.Bool.{Bool}
 use mathlib.Core.List.{List}
 use Prim.Native.Nat.{ℕ, _+_, _-_, _<_, _≤_}
 use lib.Dec.{eqb}
-use lib.ListN.{length}
+use lib.ListN.{length, take, drop}
 use Rattle.reader.specs.Text.{byte}
 use Rattle.files.specs.declared.Filled.{Filled}
 use Rattle.files.specs.declared.Filled.the-variants.{Holds, Failed}
+use Rattle.files.specs.declared.Flushed.{Flushed}
+use Rattle.files.specs.declared.Flushed.the-variants as flushed
 
 -- of a window of so many bytes, `have` hold text; those from `at` on are left, and there is room for more
 pub record Refills (at have window : ℕ) : Type 0 where
@@ -15,8 +18,29 @@ pub record Refills (at have window : ℕ) : Type 0 where
   pub held : have ≤ window
   pub room : have - at < window
 
--- b is the window after, a the one before, of which the bytes from `at` up to `have` were left. The end is told where the read gave no byte, and
--- only there
+-- the window b begins with the bytes of the window a from `at` up to `have`
+abbrev pub InFront : List ℕ → List ℕ → ℕ → ℕ → Type 0
+InFront a b at have = (j : ℕ) → j < have - at → byte b j ≡ byte a (at + j)
+
+-- n bytes of the window b hold text, and `last` says whether the text ends with them: it does where the read gave no byte, and only there
+pub record Held (a b : List ℕ) (at have n : ℕ) (last : Bool) : Type 0 where
+  pub within : n ≤ length b
+  pub least : have - at ≤ n
+  pub left : InFront a b at have
+  pub ended : last ≡ eqb n (have - at)
+
+-- b is the window after, a the one before, of which the bytes from `at` up to `have` were left. They are at its front though the read failed
 abbrev pub Refilled : Filled → List ℕ → List ℕ → ℕ → ℕ → Type 0
-Refilled (Holds n last) a b at have = (n ≤ length b) × ((have - at ≤ n) × (((j : ℕ) → j < have - at → byte b j ≡ byte a (at + j)) × (last ≡ eqb n (have - at))))
-Refilled Failed a b at have = Unit {0}
+Refilled (Holds n last) a b at have = Held a b at have n last
+Refilled Failed a b at have = InFront a b at have
+
+-- the bytes that were read into the window b, of which n hold text and so many were left before
+abbrev pub readBehind : ℕ → ℕ → List ℕ → List ℕ
+readBehind rest n b = drop rest (take n b)
+
+-- ---- the output
+
+-- what went out is all that was to go, or the write failed
+abbrev pub Flushes : Flushed → ℕ → Type 0
+Flushes (flushed.Wrote n) used = n ≡ used
+Flushes flushed.Failed used = Unit {0}

@@ -1,6 +1,7 @@
 // What the programs share: a file's text through a window that the caller lends, the whole of `traverse.txt` read by windows, and the output.
 // Assumed, and said by no contract, since none can speak of what the system reads: `libc::read` delivers the file's bytes in order, and
-// where it is asked for one byte or more, a read of 0 bytes is the file's end. A read or a write that fails is told on standard error.
+// where it is asked for one byte or more, a read of 0 bytes is the file's end. Nor can one say what the system writes: `flush` answers how
+// many bytes it handed over, and what its callers make of that is proved. A read or a write that fails is told on standard error.
 use libc::STDOUT_FILENO;
 use reader::Cursor;
 use reader::Known;
@@ -11,8 +12,9 @@ ghost use mathlib.Core.Path.{_≡_};
 ghost use Prim.Native.Nat.{ℕ, _+_, _-_, _<_, _≤_};
 ghost use lib.ListN.{length};
 ghost use Rattle.reader.specs.Text.{byte};
-ghost use Rattle.files.specs.Filled.{Refills, Refilled};
-ghost use Rattle.files.specs.TraverseFile.{fileOf, HasPoints};
+ghost use Rattle.libc.specs.Io.{Moved};
+ghost use Rattle.files.specs.Filled.{Refills, Refilled, Flushes};
+ghost use Rattle.files.specs.TraverseFile.{fileOf, Loads, LoadsSome};
 
 // ---- windows
 
@@ -36,6 +38,24 @@ fn shift(buf: &mut [u8], at: usize, have: usize) -> usize
     rest
 }
 
+// One read, made again where a signal interrupted it before a byte came. That is no failure; the tries are counted down all the same.
+fn read_through(fd: i32, buf: &mut [u8]) -> isize
+    ensures { λ r. ⌜ Moved (length (now (buf .entry))) r ⌝ }
+{
+    let mut tries: u64 = 0x100_0000_0000_0000;
+    while tries > 0 {
+        tries -= 1;
+        let got = libc::read(fd, buf);
+        if got >= 0 {
+            return got;
+        }
+        if os::errno() != libc::EINTR {
+            return got;
+        }
+    }
+    -1
+}
+
 // The window again: what was left of it at its front, and more of the file behind that. What was left is less than the window, so that the
 // read asks for one byte or more, and a read of no bytes is the file's end.
 pub fn refill(fd: i32, buf: &mut [u8], at: usize, have: usize) -> Filled
@@ -43,7 +63,7 @@ pub fn refill(fd: i32, buf: &mut [u8], at: usize, have: usize) -> Filled
     ensures { λ r. ⌜ Refilled r (now (buf .entry)) (now (buf .exit)) at have ⌝ }
 {
     let rest = shift(buf, at, have);
-    let got = libc::read(fd, &mut buf[rest..]);
+    let got = read_through(fd, &mut buf[rest..]);
     if got < 0 {
         return Filled::Failed;
     }
@@ -78,10 +98,11 @@ fn file_of(answer: Loaded, known: Known) -> TraverseFile
     }
 }
 
-// Reads a traverse text to its end, or to its refusal. A file ends, though nothing here says so: the turns are counted down.
+// Reads a traverse text to its end, or to its refusal. A file ends, though nothing here says so: the turns are counted down. A file that
+// could not be opened, whose descriptor is negative, counts as empty text: it has ended before a byte was read.
 fn load_traverse(fd: i32, buf: &mut [u8], points: &mut [i64]) -> TraverseFile
     requires { ⌜ 33 ≤ length (now buf) ⌝ }
-    ensures { λ r. ⌜ HasPoints (r .answer) (r .count) (length (now (points .exit))) ⌝ }
+    ensures { λ r. ⌜ Loads fd (now (buf .entry)) (now (points .entry)) r (now (buf .exit)) (now (points .exit)) ⌝ }
 {
     let mut turns: u64 = 0x100_0000_0000_0000;
     let mut k = Known::start();
@@ -112,10 +133,10 @@ fn load_traverse(fd: i32, buf: &mut [u8], points: &mut [i64]) -> TraverseFile
     file_of(Loaded::Failed, k)
 }
 
-// Reads `traverse.txt` in the current folder, its points into the lent numbers. A file that cannot be opened counts as empty text.
+// Reads `traverse.txt` in the current folder, its points into the lent numbers.
 pub fn read_traverse(buf: &mut [u8], points: &mut [i64]) -> TraverseFile
     requires { ⌜ 33 ≤ length (now buf) ⌝ }
-    ensures { λ r. ⌜ HasPoints (r .answer) (r .count) (length (now (points .exit))) ⌝ }
+    ensures { λ r. ⌜ LoadsSome (now (buf .entry)) (now (points .entry)) r (now (buf .exit)) (now (points .exit)) ⌝ }
 {
     let fd = os::open_read(b"traverse.txt");
     let file = load_traverse(fd, buf, points);
@@ -125,13 +146,20 @@ pub fn read_traverse(buf: &mut [u8], points: &mut [i64]) -> TraverseFile
 
 // ---- the output
 
-// Writes the first `used` bytes to standard output, and answers whether that was done.
-pub fn flush(out: &[u8], used: usize) -> bool
+// What became of bytes that were to go to standard output: so many of them went, or the write failed.
+pub enum Flushed {
+    Wrote(usize),
+    Failed,
+}
+
+// Writes the first `used` bytes to standard output.
+pub fn flush(out: &[u8], used: usize) -> Flushed
     requires { ⌜ used ≤ length (now out) ⌝ }
+    ensures { λ r. ⌜ Flushes r used ⌝ }
 {
-    let done = io::write_all(STDOUT_FILENO, &out[..used]);
-    if !done {
-        os::fail(b"standard output");
+    if io::write_all(STDOUT_FILENO, &out[..used]) {
+        return Flushed::Wrote(used);
     }
-    done
+    os::fail(b"standard output");
+    Flushed::Failed
 }

@@ -2,7 +2,7 @@
 use mathlib.Core.Path.{_≡_}
 use mathlib.Core.Bool.{Bool, true, false, cond}
 use mathlib.Core.List.{List, [], _∷_, _++_}
-use Prim.Native.Nat.{ℕ, _+_, _-_, _*_, _<_}
+use Prim.Native.Nat.{ℕ, _+_, _-_, _*_, _<_, _≤_}
 use lib.Dec.{eqb, leb}
 use lib.ListN.{length, take}
 use lib.IntN.{ℤ}
@@ -17,12 +17,12 @@ use Rattle.reader.specs.declared.storm.RecordStep.the-variants as step
 use Rattle.reader.specs.declared.storm.StartStep.{StartStep}
 use Rattle.reader.specs.declared.storm.StartStep.the-variants as start-step
 use Rattle.reader.specs.Lines.{Leaves, read, refused}
-use Rattle.reader.specs.Storm.{Seen, needs-more, seen, one, none, recordIn, stormOf, startStep, recordStep, recordStepLeft}
+use Rattle.reader.specs.Storm.{Seen, needs-more, seen, one, none, recordIn, stormRest, stormOf, startStep, recordStep, recordStepLeft}
 use Rattle.reader.specs.declared.traverse.Whole.{Whole}
 use Rattle.reader.specs.declared.traverse.Whole.the-variants as whole
 use Rattle.reader.specs.declared.traverse.TraverseRead.{TraverseRead}
 use Rattle.reader.specs.Traverse.{held, start, noPoints}
-use Rattle.reader.specs.Window.{Cut, fromOf, windowOf, lastOf, enough, TraverseRun, done, going, traverseRun}
+use Rattle.reader.specs.Window.{Shows, Cut, fromOf, windowOf, lastOf, enough, TraverseRun, done, going, traverseRun}
 use Rattle.march.specs.declared.State.{State}
 use Rattle.march.specs.Checks.{freshState, openOf}
 use Rattle.march.specs.Answers.{Told, ToldOpen, opened, notOpened}
@@ -77,6 +77,35 @@ recordTurn t w last at line st rows = saidSeen (recordStep w last (count t) at l
 
 unfoldable pub turnOf : Traverse → List ℕ → Bool → ℕ → ℕ → State → List ℤ → Said
 turnOf t w last at line st rows = cond (eqb line 0) (startTurn w last) (recordTurn t w last at line st rows)
+
+-- the lines still to come from a place of the text s on: all the storm's where its names line was not read yet
+abbrev pub linesFrom : List ℕ → Traverse → ℕ → ℕ → State → List ℤ → List ℕ
+linesFrom s t at line st rows = cond (eqb line 0) (stormLines t st rows (stormOf s (count t))) (stormLines t st rows (stormRest s (count t) at line))
+
+-- what a turn said on a window that begins at o, and the lines still to come after it
+abbrev pub saidThen : List ℕ → Traverse → ℕ → ℕ → ℕ → State → List ℤ → Said → List ℕ
+saidThen s t o at line st rows more = linesFrom s t (o + at) line st rows
+saidThen s t o at line st rows (reads a l) = linesFrom s t (o + a) l st rows
+saidThen s t o at line st rows (says bytes a l st′ rows′) = bytes ++ linesFrom s t (o + a) l st′ rows′
+saidThen s t o at line st rows (ends bytes) = bytes
+saidThen s t o at line st rows quiet = []
+
+-- the statement, proved in `proofs/Tells.antt`: a turn on any window of a text, whatever its size, says the lines that come next
+abbrev pub TurnTells : Type 0
+TurnTells =
+    (s w : List ℕ) (t : Traverse) (o : ℕ) (last : Bool) → Shows s w o last → (at line : ℕ) (st : State) (rows : List ℤ) → at ≤ length w → (line ≡ 0 → o ≡ 0)
+    → saidThen s t o at line st rows (turnOf t w last at line st rows) ≡ linesFrom s t (o + at) line st rows
+
+-- where a turn on a window of so many bytes goes on, some line was counted and the place is within the window
+abbrev pub GoesOn : ℕ → Said → Type 0
+GoesOn size more = Unit {0}
+GoesOn size (reads a l) = (0 < l) × (a ≤ size)
+GoesOn size (says bytes a l st rows) = (0 < l) × (a ≤ size)
+GoesOn size (ends bytes) = Unit {0}
+GoesOn size quiet = Unit {0}
+
+abbrev pub TurnGoesOn : Type 0
+TurnGoesOn = (w : List ℕ) (last : Bool) (t : Traverse) (at line : ℕ) (st : State) (rows : List ℤ) → at ≤ length w → GoesOn (length w) (turnOf t w last at line st rows)
 
 -- ---- the same by the numbers that a record is read into: they are the record where there is room for it (`proofs/RecordRead.antt`, `turn-seen`)
 
@@ -193,16 +222,47 @@ afterRun (going h at line) s cuts = record { bytes = []; finished = false }
 unfoldable pub driveAll : List ℕ → List Cut → List ℕ → List Cut → Driven
 driveAll tt cutsT s cuts = afterRun (traverseRun tt cutsT (held start noPoints) 0 0) s cuts
 
--- ---- the statements, proved in `proofs/Driven.antt`: any windows, and among them enough that show a record, or the end and that it is the end
+-- ---- the statements, proved in `proofs/Driven.antt`: for any windows of the texts, whatever their sizes
 
--- the turns on a storm text say just its lines
+-- bytes that lines begin with
+pub record Begins (bytes lines : List ℕ) : Type 0 where
+  pub rest : List ℕ
+  pub joined : bytes ++ rest ≡ lines
+
+-- what the turns on a storm text said begins the storm's lines, as far as they went
+abbrev pub StormBegins : Type 0
+StormBegins =
+    (s : List ℕ) (t : Traverse) (cuts : List Cut) (st : State) (rows : List ℤ) →
+    Begins (driveFrom s t cuts 0 0 st rows .bytes) (stormLines t st rows (stormOf s (count t)))
+
+-- and is all of them once it is finished
 abbrev pub StormDriven : Type 0
 StormDriven =
-    (s : List ℕ) (t : Traverse) (cuts : List Cut) (st : State) (rows : List ℤ) → length s + 1 < enough 3640 cuts →
-    driveFrom s t cuts 0 0 st rows ≡ record { bytes = stormLines t st rows (stormOf s (count t)); finished = true }
+    (s : List ℕ) (t : Traverse) (cuts : List Cut) (st : State) (rows : List ℤ) →
+    driveFrom s t cuts 0 0 st rows .finished ≡ true → driveFrom s t cuts 0 0 st rows .bytes ≡ stormLines t st rows (stormOf s (count t))
 
--- and on both files just the listing
+-- which it is where enough of the windows show a record, of 3,575 bytes at most, or the end and that it is the end
+abbrev pub StormEnds : Type 0
+StormEnds =
+    (s : List ℕ) (t : Traverse) (cuts : List Cut) (st : State) (rows : List ℤ) → length s + 1 < enough 3575 cuts →
+    driveFrom s t cuts 0 0 st rows .finished ≡ true
+
+-- the same of both files and the listing
+abbrev pub ListingBegins : Type 0
+ListingBegins = (tt : List ℕ) (cutsT : List Cut) (s : List ℕ) (cuts : List Cut) → Begins (driveAll tt cutsT s cuts .bytes) (listingOf tt s)
+
 abbrev pub ListingDriven : Type 0
 ListingDriven =
-    (tt : List ℕ) (cutsT : List Cut) (s : List ℕ) (cuts : List Cut) → length tt < enough 33 cutsT → length s + 1 < enough 3640 cuts →
+    (tt : List ℕ) (cutsT : List Cut) (s : List ℕ) (cuts : List Cut) →
+    driveAll tt cutsT s cuts .finished ≡ true → driveAll tt cutsT s cuts .bytes ≡ listingOf tt s
+
+abbrev pub ListingEnds : Type 0
+ListingEnds =
+    (tt : List ℕ) (cutsT : List Cut) (s : List ℕ) (cuts : List Cut) → length tt < enough 33 cutsT → length s + 1 < enough 3575 cuts →
+    driveAll tt cutsT s cuts .finished ≡ true
+
+-- so enough such windows print just the listing
+abbrev pub ListingWhole : Type 0
+ListingWhole =
+    (tt : List ℕ) (cutsT : List Cut) (s : List ℕ) (cuts : List Cut) → length tt < enough 33 cutsT → length s + 1 < enough 3575 cuts →
     driveAll tt cutsT s cuts ≡ record { bytes = listingOf tt s; finished = true }

@@ -2,3 +2,4 @@
 pub mod Sets
 pub mod CallLaws
 pub mod TextLaws
+pub mod Again

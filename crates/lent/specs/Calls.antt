@@ -1,5 +1,7 @@
 -- The calls of the march on lent numbers, whatever they are given: what is returned, and everything that was lent. Each is the march's own definition
--- (`openOf`, `takeOf`), with numbers for its values.
+-- (`openOf`, `takeOf`), with numbers for its values. `Opens` is the promise itself: the code's `ensures` and the statements over lists of calls are
+-- both of it.
+use mathlib.Core.Path.{_≡_}
 use mathlib.Core.Bool.{cond, _&&_}
 use mathlib.Core.List.{List, _++_}
 use Prim.Native.Nat.{ℕ, _*_}
@@ -38,6 +40,10 @@ openWith t state answer =
 
 unfoldable pub openCall : ℤ → ℤ → ℤ → List ℤ → List ℤ → List ℤ → LeftOpen
 openCall latitude friction initial points = openWith (traverse (record { latitude = latitude; friction = friction; initial = initial }) points)
+
+-- the promise of the call, on these and with this left
+abbrev pub Opens : ℤ → ℤ → ℤ → List ℤ → List ℤ → List ℤ → LeftOpen → Type 0
+Opens latitude friction initial points state answer left = left ≡ openCall latitude friction initial points state answer
 
 -- ---- taking a record
 

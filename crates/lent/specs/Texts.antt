@@ -1,5 +1,5 @@
 -- The calls that read texts, whatever they are given: what is returned, and everything that was lent. Each is the reader's own definition
--- (`traverseLeft`, `stormStart`, `nextLeft`), with numbers for its values.
+-- (`traverseLeft`, `stormStart`, `nextLeft`), with numbers for its values. `ReadsTraverse` and `ReadsRecord` are the promises themselves.
 use mathlib.Core.Path.{_≡_}
 use mathlib.Core.Bool.{Bool, cond, _&&_}
 use mathlib.Core.List.{List, [], _∷_}
@@ -53,6 +53,10 @@ readTraverseWith x head points answer =
 
 unfoldable pub readTraverseCall : List ℕ → List ℤ → List ℤ → List ℤ → LeftTraverse
 readTraverseCall text = readTraverseWith (traverseLeft text noPoints)
+
+-- the promise of the call, on these and with this left
+abbrev pub ReadsTraverse : List ℕ → List ℤ → List ℤ → List ℤ → LeftTraverse → Type 0
+ReadsTraverse text head points answer left = left ≡ readTraverseCall text head points answer
 
 -- ---- a storm text, record by record
 
@@ -120,3 +124,7 @@ readRecordWith x text count cursor values storm answer =
 
 unfoldable pub readRecordCall : List ℕ → ℕ → List ℤ → List ℤ → List ℤ → List ℤ → LeftRecord
 readRecordCall text count cursor values storm answer = readRecordWith (startOf text (cursorOf cursor)) text count cursor values storm answer
+
+-- the promise of the call, on these and with this left
+abbrev pub ReadsRecord : List ℕ → ℕ → List ℤ → List ℤ → List ℤ → List ℤ → LeftRecord → Type 0
+ReadsRecord text count cursor values storm answer left = left ≡ readRecordCall text count cursor values storm answer

@@ -6,8 +6,7 @@ use super::numbers::store_state;
 use super::numbers::store_three;
 use march::Check;
 use records::Head;
-ghost use mathlib.Core.Path.{_≡_};
-ghost use Rattle.lent.specs.Calls.{leftOpen, openCall};
+ghost use Rattle.lent.specs.Calls.{leftOpen, Opens};
 
 // `points` has 2 numbers a point. The number of the refusal is returned, 0 where the traverse is accepted.
 pub fn open_traverse(
@@ -18,7 +17,7 @@ pub fn open_traverse(
     state: &mut [i64],
     answer: &mut [i64],
 ) -> u64
-    ensures { λ r. ⌜ leftOpen r (now (state .exit)) (now (answer .exit)) ≡ openCall latitude friction initial (now (points .entry)) (now (state .entry)) (now (answer .entry)) ⌝ }
+    ensures { λ r. ⌜ Opens latitude friction initial (now (points .entry)) (now (state .entry)) (now (answer .entry)) (leftOpen r (now (state .exit)) (now (answer .exit))) ⌝ }
 {
     if !buffers_ok(state.len(), answer.len()) {
         return WRONG_BUFFER;

@@ -14,7 +14,7 @@ ghost use lib.IntN.{pos};
 ghost use lib.ListN.{length};
 ghost use Rattle.reader.specs.Storm.{nextLeft};
 ghost use Rattle.lent.specs.Numbers.{answerNumbers};
-ghost use Rattle.lent.specs.Texts.{noNumbers, traverseBuffers, leftTraverse, readTraverseCall, lentPlace, cursorOf, cursorNumbers, startOf, recordBuffers, RecordIn, leftRecord, keptRecord, afterNext, readRecordCall};
+ghost use Rattle.lent.specs.Texts.{noNumbers, traverseBuffers, leftTraverse, ReadsTraverse, lentPlace, cursorOf, cursorNumbers, startOf, recordBuffers, RecordIn, leftRecord, keptRecord, afterNext, ReadsRecord};
 
 // How many numbers are lent for a traverse's head, for 65 points of it, for a cursor, for a record's values and for 65 points of it.
 const HEAD: usize = 3;
@@ -53,7 +53,7 @@ pub fn traverse_buffers(head: usize, points: usize, answer: usize) -> bool
 
 // Reads a traverse text: 3 numbers of values, 2 to each of 65 points, and in the answer how many points there are.
 pub fn read_traverse(text: &[u8], head: &mut [i64], points: &mut [i64], answer: &mut [i64]) -> u64
-    ensures { λ r. ⌜ leftTraverse r (now (head .exit)) (now (points .exit)) (now (answer .exit)) ≡ readTraverseCall (now (text .entry)) (now (head .entry)) (now (points .entry)) (now (answer .entry)) ⌝ }
+    ensures { λ r. ⌜ ReadsTraverse (now (text .entry)) (now (head .entry)) (now (points .entry)) (now (answer .entry)) (leftTraverse r (now (head .exit)) (now (points .exit)) (now (answer .exit))) ⌝ }
 {
     if !traverse_buffers(head.len(), points.len(), answer.len()) {
         return WRONG_BUFFER;
@@ -192,7 +192,7 @@ pub fn read_record(
     storm: &mut [i64],
     answer: &mut [i64],
 ) -> u64
-    ensures { λ r. ⌜ leftRecord r (now (cursor .exit)) (now (values .exit)) (now (storm .exit)) (now (answer .exit)) ≡ readRecordCall (now (text .entry)) count (now (cursor .entry)) (now (values .entry)) (now (storm .entry)) (now (answer .entry)) ⌝ }
+    ensures { λ r. ⌜ ReadsRecord (now (text .entry)) count (now (cursor .entry)) (now (values .entry)) (now (storm .entry)) (now (answer .entry)) (leftRecord r (now (cursor .exit)) (now (values .exit)) (now (storm .exit)) (now (answer .exit))) ⌝ }
 {
     if !record_buffers(cursor.len(), values.len(), storm.len(), answer.len()) {
         return WRONG_BUFFER;

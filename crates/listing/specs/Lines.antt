@@ -26,3 +26,7 @@ refusedWord = 114 ∷ 101 ∷ 102 ∷ 117 ∷ 115 ∷ 101 ∷ 100 ∷ 32 ∷ []
 -- a refusal: the word, its number and its place
 unfoldable pub refusedLine : ℕ → ℕ → List ℕ
 refusedLine number place = refusedWord ++ decimalOf number ++ space ++ decimalOf place ++ feed
+
+-- `failed`: the last line where the system failed a read. Not of document 01's listing: decision 24
+abbrev pub failedLine : List ℕ
+failedLine = 102 ∷ 97 ∷ 105 ∷ 108 ∷ 101 ∷ 100 ∷ 10 ∷ []

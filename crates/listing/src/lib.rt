@@ -1,6 +1,6 @@
 // The lines that the program prints, put into a buffer that the caller lends.
 //
-// The open calls are `put_names`, `put_record` and `put_refused`: each finds out how long its line is
+// The open calls are `put_names`, `put_record`, `put_refused` and `put_failed`: each finds out how long its line is
 // before it writes a byte, so a line that does not fit leaves the buffer as lent. A `write_` function
 // writes where its caller has seen to the room, and answers the place behind what it wrote.
 ghost use mathlib.Core.Path.{_≡_};
@@ -10,7 +10,7 @@ ghost use lib.ListN.{length};
 ghost use lib.Dec.{leb};
 ghost use lib.IntN.{natAbs};
 ghost use Rattle.listing.specs.Decimal.{decimalOf, signedText};
-ghost use Rattle.listing.specs.Lines.{namesLine, recordLine, refusedLine};
+ghost use Rattle.listing.specs.Lines.{namesLine, recordLine, refusedLine, failedLine};
 ghost use Rattle.listing.specs.Put.{afterPut, putOf, Wrote};
 
 // The place behind a line that was put, or that the line does not fit.
@@ -174,4 +174,14 @@ pub fn put_refused(out: &mut [u8], at: usize, number: u64, place: u64) -> Put
         return Put::Full;
     }
     Put::Next(write_refused(out, at, number, place))
+}
+
+// The last line where the system failed a read. It has no number, so that nothing takes it for a record or a refusal.
+pub fn put_failed(out: &mut [u8], at: usize) -> Put
+    ensures { λ r. ⌜ afterPut r (now (out .exit)) ≡ putOf failedLine at (now (out .entry)) ⌝ }
+{
+    if !has_room(out.len(), at, 7) {
+        return Put::Full;
+    }
+    Put::Next(write_bytes(out, at, b"failed\n"))
 }

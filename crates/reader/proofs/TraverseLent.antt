@@ -176,7 +176,7 @@ stored-at l i x h =
     let e : 2 * (i + 1) ≡ 2 * i + 2 = omega arith in
     rw (lt-ltb _ _ h, e) (sets-take (ofStation x) l (2 * i) (omega (arith, wholes-fit 2 (length l))))
 
-more-most : (n : ℕ) → more n ≤ n + 1
+pub more-most : (n : ℕ) → more n ≤ n + 1
 unfolding more
 more-most n = go (ltb n 18446744073709551615)
   where

@@ -33,10 +33,10 @@ use Rattle.segment.proofs.SegmentLaws.{segment-on, passed-water}
 
 -- ---- water depth
 
-abbrev hundred : Range
+abbrev pub hundred : Range
 hundred = record { low = pos 100; high = pos 100 }
 
-hundred-positive : Positive hundred
+pub hundred-positive : Positive hundred
 hundred-positive = record { low = ltZ-yes tt; high = ltZ-yes tt }
 
 module _ (a : Site) (w : Weather) (s : Range) (o : Ordered s) where

@@ -1,2 +1,6 @@
--- The laws that the proofs of `surge` cite.
+-- The laws that the proofs of `surge` share. Assumes nothing.
+pub mod Begun
 pub mod TurnEnds
+pub mod Turns
+pub mod Listing
+pub mod Walked

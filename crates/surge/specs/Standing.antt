@@ -1,31 +1,59 @@
--- How the program stands between two turns, and what a turn does with what `hydrograph` answered. Assumes nothing.
+-- How the program stands between two turns, with all that is lent, and what a turn does. Assumes nothing.
 use mathlib.Core.Path.{_≡_}
 use mathlib.Core.Bool.{Bool, true, false}
 use mathlib.Core.List.{List}
-use Prim.Native.Nat.{ℕ, _+_, _-_, _<_, _≤_}
-use lib.Dec.{eqb}
-use lib.ListN.{take}
-use lib.IntN.{ℤ}
-use Rattle.records.specs.Shapes.{Traverse}
-use Rattle.reader.specs.Text.{byte}
+use Prim.Native.Nat.{ℕ, _+_, _<_, _≤_}
+use lib.ListN.{length, take, replicate}
+use lib.IntN.{ℤ, pos}
+use Rattle.records.specs.Shapes.{Traverse, count}
+use Rattle.listing.specs.Lines.{failedLine}
+use Rattle.listing.specs.Put.{written}
+use Rattle.reader.specs.Traverse.{noPoints}
+use Rattle.reader.specs.Storm.{recordSize}
+use Rattle.files.specs.Filled.{InFront, Held}
 use Rattle.hydrograph.specs.declared.Run.{Run}
 use Rattle.hydrograph.specs.declared.Turn.{Turn}
 use Rattle.hydrograph.specs.declared.Turn.the-variants as turn
 use Rattle.hydrograph.specs.Turns.{LeftTurn, turnHeard, turnLeft, lineRoom}
 use Rattle.surge.specs.declared.Standing.{Standing}
 
--- the sizes of what is lent: the window, the points of 65 at most, the rows of as many segments as lie between those, and the output
-pub record Lent (window points rows out : ℕ) : Type 0 where
+-- ---- what `main` lends
+
+-- the rows of 64 segments, all zero: those of a fresh traverse
+abbrev pub noRows : List ℤ
+noRows = replicate 192 (pos 0)
+
+-- a window that holds the longest record, fresh points and rows, room for a record of 65 points, and for a line
+pub record Lent (window : ℕ) (points numbers rows : List ℤ) (out : ℕ) : Type 0 where
   pub window-holds : 3575 ≤ window
-  pub points-most : points ≤ 130
-  pub rows-least : 192 ≤ rows
+  pub points-fresh : points ≡ noPoints
+  pub record-holds : 197 ≤ length numbers
+  pub rows-fresh : rows ≡ noRows
   pub out-holds : lineRoom ≤ out
+
+-- ---- lines of the program's own
+
+-- a line is put behind so many bytes, and so many wait then
+pub record PutsAt (line : List ℕ) (used : ℕ) (out : List ℕ) (waits : ℕ) (out′ : List ℕ) : Type 0 where
+  pub waits-are : waits ≡ used + length line
+  pub within : waits ≤ length out′
+  pub out-is : out′ ≡ written line used out
+
+-- ---- how it stands
 
 -- the cursor within what the window holds, that within the window, and no more bytes waiting than there is room for
 pub record Stands (x : Standing) (window room : ℕ) : Type 0 where
   pub place : x .run .cursor .at ≤ x .have
   pub held : x .have ≤ window
   pub waits : x .used ≤ room
+
+-- when the turns may begin: the cursor at the start, and room in all that is lent
+pub record Starts (run : Run) (used : ℕ) (window : List ℕ) (t : Traverse) (numbers : List ℤ) (out : List ℕ) : Type 0 where
+  pub place : run .cursor .at ≤ 0
+  pub waits : used ≤ length out
+  pub window-holds : 3575 ≤ length window
+  pub out-holds : lineRoom ≤ length out
+  pub record-holds : recordSize (count t) ≤ length numbers
 
 -- a run with its cursor at the front of the window
 abbrev pub frontOf : Run → Run
@@ -35,43 +63,60 @@ frontOf run = record { cursor = record { at = 0; line = run .cursor .line }; sta
 abbrev pub standingWith : Standing → Run → ℕ → Bool → Standing
 standingWith x run used on = record { run = run; have = x .have; last = x .last; used = used; on = on }
 
--- the program goes on with the run at the front of the window b, which begins with the bytes that were left of the window a
-pub record Follows (x : Standing) (run : Run) (have used : ℕ) (a b : List ℕ) : Type 0 where
-  pub same : x .run ≡ frontOf run
-  pub waits : x .used ≡ used
-  pub left : have - run .cursor .at ≤ x .have
-  pub bytes : (j : ℕ) → j < have - run .cursor .at → byte b j ≡ byte a (run .cursor .at + j)
-  -- the end is told where the read gave no byte, and only there
-  pub ended : x .last ≡ eqb (x .have) (have - run .cursor .at)
+-- the program's memory between two turns: how it stands, the window's bytes, the numbers of a record, the rows, and the output's bytes
+pub record Memory : Type 0 where
+  pub standing : Standing
+  pub window : List ℕ
+  pub numbers : List ℤ
+  pub rows : List ℤ
+  pub out : List ℕ
 
--- ---- one turn: x is how the program stands before it, r after it
+abbrev pub memory : Standing → List ℕ → List ℤ → List ℤ → List ℕ → Memory
+memory x window numbers rows out = record { standing = x; window = window; numbers = numbers; rows = rows; out = out }
+
+-- ---- one turn: a is the memory before it, b after it
 
 -- what `hydrograph` answers for the window's bytes, and leaves of what is lent
-abbrev pub turnOn : Traverse → Standing → List ℕ → List ℤ → List ℤ → List ℕ → LeftTurn
-turnOn t x window numbers rows out =
-    turnLeft (turnHeard t (take (x .have) window) (x .last) (x .run .cursor .at) (x .run .cursor .line) (x .run .state) rows numbers) (x .run) numbers rows out (x .used)
+unfoldable pub turnOn : Traverse → Memory → LeftTurn
+turnOn t a =
+    let x = a .standing in
+    turnLeft (turnHeard t (take (x .have) (a .window)) (x .last) (x .run .cursor .at) (x .run .cursor .line) (x .run .state) (a .rows) (a .numbers)) (x .run) (a .numbers) (a .rows) (a .out) (x .used)
 
--- the run is that of the answer l, with the cursor at a place
-pub record Carries (l : LeftTurn) (at : ℕ) (r : Standing) : Type 0 where
-  pub place : r .run .cursor .at ≡ at
-  pub line : r .run .cursor .line ≡ l .run .cursor .line
-  pub state : r .run .state ≡ l .run .state
+-- more of the text was read: the run stands at the front of the window b, which begins with the bytes that were left of the window a
+pub record Follows (run : Run) (x y : Standing) (a b : List ℕ) : Type 0 where
+  pub same : y .run ≡ frontOf run
+  pub waits : y .used ≡ x .used
+  pub window : Held a b (run .cursor .at) (x .have) (y .have) (y .last)
 
--- the window is as it was
-pub record Same (x r : Standing) : Type 0 where
-  pub have : r .have ≡ x .have
-  pub last : r .last ≡ x .last
+-- the read failed: the line that says so waits behind the others, and no more comes
+pub record Fails (run : Run) (x y : Standing) (a b out out′ : List ℕ) : Type 0 where
+  pub same : y ≡ standingWith x run (x .used + length failedLine) false
+  pub window : InFront a b (run .cursor .at) (x .have)
+  pub line : out′ ≡ written failedLine (x .used) out
 
--- what is done, by the answer: a line waits, or the last line does and no more comes; where more of the text was needed, or room for a line,
--- the same turn comes again, unless the read or the write failed
-abbrev pub Moves : Turn → LeftTurn → Standing → Standing → Type 0
-Moves (turn.Line k) l x r = (r .on ≡ true) × (r .used ≡ k) × Same x r × Carries l (l .run .cursor .at) r
-Moves (turn.End k) l x r = (r .on ≡ false) × (r .used ≡ k)
-Moves turn.More l x r = r .on ≡ true → (r .used ≡ x .used) × Carries l 0 r
-Moves turn.Full l x r = r .on ≡ true → (r .used ≡ 0) × Same x r × Carries l (l .run .cursor .at) r
+-- by whether it goes on
+abbrev pub ReadBy : Bool → Run → Standing → Standing → List ℕ → List ℕ → List ℕ → List ℕ → Type 0
+ReadBy true run x y a b out out′ = Follows run x y a b × (out′ ≡ out)
+ReadBy false run x y a b out out′ = Fails run x y a b out out′
 
-pub record Moved (l : LeftTurn) (x r : Standing) (numbers rows : List ℤ) (out : List ℕ) : Type 0 where
-  pub record-left : numbers ≡ l .numbers
-  pub rows-left : rows ≡ l .rows
-  pub out-left : out ≡ l .out
-  pub moves : Moves (l .turn) l x r
+abbrev pub ReadFrom : Run → Standing → Standing → List ℕ → List ℕ → List ℕ → List ℕ → Type 0
+ReadFrom run x y a b out out′ = ReadBy (y .on) run x y a b out out′
+
+-- a line waits, or the last line does and no more comes: the window is as it was
+pub record Waits (k : ℕ) (on : Bool) (l : LeftTurn) (a b : Memory) : Type 0 where
+  pub same : b .standing ≡ standingWith (a .standing) (l .run) k on
+  pub window : b .window ≡ a .window
+  pub out : b .out ≡ l .out
+
+-- what is done, by the answer. Where there was no room for a line something waited; nothing waits then, and the same turn comes again unless the
+-- write failed
+abbrev pub Moves : Turn → LeftTurn → Memory → Memory → Type 0
+Moves (turn.Line k) l a b = Waits k true l a b
+Moves (turn.End k) l a b = Waits k false l a b
+Moves turn.Full l a b = (0 < a .standing .used) × Waits 0 (b .standing .on) l a b
+Moves turn.More l a b = ReadFrom (l .run) (a .standing) (b .standing) (a .window) (b .window) (l .out) (b .out)
+
+pub record Moved (t : Traverse) (a b : Memory) : Type 0 where
+  pub record-left : b .numbers ≡ turnOn t a .numbers
+  pub rows-left : b .rows ≡ turnOn t a .rows
+  pub moves : Moves (turnOn t a .turn) (turnOn t a) a b

@@ -1,8 +1,9 @@
 // The program: it reads `traverse.txt` and then `storm.txt` in the current folder, each through a window of 65,536 bytes, and prints the
 // listing. What is printed is decided by `hydrograph` and the crates below it; here bytes are moved. `main` owns the window, the output and the
 // numbers of points, record and rows, and lends them down. A file that cannot be opened counts as empty text. A read or a write that fails is
-// told on standard error, and nothing more is printed.
+// told on standard error; after a read that failed what waits is printed with the line `failed` behind it, after a write nothing more.
 use files::Filled;
+use files::Flushed;
 use files::Loaded;
 use hydrograph::Run;
 use hydrograph::Turn;
@@ -12,17 +13,17 @@ use records::Head;
 use records::Refusal;
 use records::Row;
 use records::Station;
-ghost use mathlib.Core.Bool.{true, false};
 ghost use mathlib.Core.Path.{_≡_};
-ghost use Prim.Native.Nat.{_≤_};
+ghost use Prim.Native.Nat.{_+_, _≤_};
 ghost use lib.ListN.{length};
-ghost use Rattle.records.specs.Shapes.{traverse};
-ghost use Rattle.listing.specs.declared.Put.the-variants.{Next};
-ghost use Rattle.listing.specs.Put.{afterPut, putOf};
+ghost use Rattle.records.specs.Shapes.{traverse, count};
+ghost use Rattle.listing.specs.Lines.{failedLine};
+ghost use Rattle.reader.specs.Storm.{recordSize};
 ghost use Rattle.hydrograph.specs.Listing.{refusalLine};
 ghost use Rattle.hydrograph.specs.Turns.{lineRoom};
 ghost use Rattle.files.specs.Filled.{Refills};
-ghost use Rattle.surge.specs.Standing.{Stands, frontOf, standingWith, Follows, turnOn, Moved, Lent};
+ghost use Rattle.surge.specs.Standing.{Lent, PutsAt, Stands, Starts, frontOf, standingWith, ReadFrom, memory, Moved};
+ghost use Rattle.surge.specs.Printed.{Marches, MarchesSome, Prints, Runs};
 
 // How the program stands between two turns: the run, whose cursor is in the window; how many bytes of the window hold text, and whether the
 // text ends with them; how many bytes wait to be printed; and whether it goes on.
@@ -34,6 +35,35 @@ struct Standing {
     on: bool,
 }
 
+// ---- lines of the program's own
+
+// The last line after a read that failed, behind what waits.
+fn put_failed(out: &mut [u8], used: usize) -> usize
+    requires { ⌜ used + lineRoom ≤ length (now out) ⌝ }
+    ensures { λ r. ⌜ PutsAt failedLine used (now (out .entry)) r (now (out .exit)) ⌝ }
+{
+    match listing::put_failed(out, used) {
+        Put::Next(k) => k,
+        // This does not come: there is room.
+        Put::Full => used,
+    }
+}
+
+// A traverse text that was refused: its refusal alone.
+fn put_refused(out: &mut [u8], refusal: Refusal) -> usize
+    requires { ⌜ lineRoom ≤ length (now out) ⌝ }
+    ensures { λ r. ⌜ PutsAt (refusalLine refusal) 0 (now (out .entry)) r (now (out .exit)) ⌝ }
+{
+    let place = refusal.place;
+    match listing::put_refused(out, 0, refusal.number(), place as u64) {
+        Put::Next(k) => k,
+        // This does not come: there is room.
+        Put::Full => 0,
+    }
+}
+
+// ---- one turn
+
 // The run with its cursor at the front of the window.
 fn at_front(run: Run) -> Run
     ensures { λ r. ⌜ r ≡ frontOf run ⌝ }
@@ -43,57 +73,6 @@ fn at_front(run: Run) -> Run
     Run {
         cursor: Cursor { at: 0, line },
         state,
-    }
-}
-
-// No further, and what waits is not printed.
-fn stopped(run: Run) -> Standing
-    ensures { λ r. ⌜ Stands r 0 0 × (r .on ≡ false) ⌝ }
-{
-    Standing {
-        run: at_front(run),
-        have: 0,
-        last: true,
-        used: 0,
-        on: false,
-    }
-}
-
-// More of the storm, where the window does not hold what comes next.
-fn refilled(fd: i32, buf: &mut [u8], run: Run, have: usize, used: usize) -> Standing
-    requires { ⌜ Refills (run .cursor .at) have (length (now buf)) ⌝ }
-    ensures { λ r. ⌜ Stands r (length (now (buf .exit))) used × (r .on ≡ true → Follows r run have used (now (buf .entry)) (now (buf .exit))) ⌝ }
-{
-    let cursor = run.cursor;
-    match files::refill(fd, buf, cursor.at, have) {
-        Filled::Failed => {
-            os::fail(b"storm.txt");
-            stopped(run)
-        }
-        Filled::Holds(n, end) => Standing {
-            run: at_front(run),
-            have: n,
-            last: end,
-            used,
-            on: true,
-        },
-    }
-}
-
-// What waits is written, and the turn is made again with the whole buffer.
-fn emptied(out: &[u8], run: Run, have: usize, last: bool, used: usize) -> Standing
-    requires { ⌜ (run .cursor .at ≤ have) × (used ≤ length (now out)) ⌝ }
-    ensures { λ r. ⌜ Stands r have 0 × (r .on ≡ true → r ≡ record { run = run; have = have; last = last; used = 0; on = true }) ⌝ }
-{
-    if !files::flush(out, used) {
-        return stopped(run);
-    }
-    Standing {
-        run,
-        have,
-        last,
-        used: 0,
-        on: true,
     }
 }
 
@@ -110,6 +89,40 @@ fn waiting(x: Standing, run: Run, used: usize, on: bool) -> Standing
     }
 }
 
+// More of the storm, where the window does not hold what comes next.
+fn refilled(fd: i32, buf: &mut [u8], x: Standing, run: Run, out: &mut [u8]) -> Standing
+    requires { ⌜ Refills (run .cursor .at) (x .have) (length (now buf)) × (x .used + lineRoom ≤ length (now out)) ⌝ }
+    ensures { λ r. ⌜ ReadFrom run x r (now (buf .entry)) (now (buf .exit)) (now (out .entry)) (now (out .exit)) ⌝ }
+{
+    let cursor = run.cursor;
+    match files::refill(fd, buf, cursor.at, x.have) {
+        Filled::Failed => {
+            os::fail(b"storm.txt");
+            let used = put_failed(out, x.used);
+            waiting(x, run, used, false)
+        }
+        Filled::Holds(n, end) => Standing {
+            run: at_front(run),
+            have: n,
+            last: end,
+            used: x.used,
+            on: true,
+        },
+    }
+}
+
+// What waits is written, and the turn is made again with the whole buffer.
+fn emptied(out: &[u8], x: Standing, run: Run) -> Standing
+    requires { ⌜ x .used ≤ length (now out) ⌝ }
+    ensures { λ r. ⌜ r ≡ standingWith x run 0 (r .on) ⌝ }
+{
+    let used = x.used;
+    match files::flush(out, used) {
+        Flushed::Failed => waiting(x, run, 0, false),
+        Flushed::Wrote(n) => waiting(x, run, used - n, true),
+    }
+}
+
 // One turn, and what it asks for.
 fn turn(
     fd: i32,
@@ -121,8 +134,8 @@ fn turn(
     rows: &mut [i64],
     out: &mut [u8],
 ) -> Standing
-    requires { ⌜ Stands x (length (now buf)) (length (now out)) × (3575 ≤ length (now buf)) ⌝ }
-    ensures { λ r. ⌜ Stands r (length (now (buf .exit))) (length (now (out .exit))) × Moved (turnOn (traverse head (now (points .entry))) x (now (buf .entry)) (now (numbers .entry)) (now (rows .entry)) (now (out .entry))) x r (now (numbers .exit)) (now (rows .exit)) (now (out .exit)) ⌝ }
+    requires { ⌜ Stands x (length (now buf)) (length (now out)) × ((3575 ≤ length (now buf)) × ((lineRoom ≤ length (now out)) × (recordSize (count (traverse head (now points))) ≤ length (now numbers)))) ⌝ }
+    ensures { λ r. ⌜ Stands r (length (now (buf .exit))) (length (now (out .exit))) × Moved (traverse head (now (points .entry))) (memory x (now (buf .entry)) (now (numbers .entry)) (now (rows .entry)) (now (out .entry))) (memory r (now (buf .exit)) (now (numbers .exit)) (now (rows .exit)) (now (out .exit))) ⌝ }
 {
     let have = x.have;
     let old = x.run;
@@ -140,15 +153,17 @@ fn turn(
     let answer = turned.turn;
     let run = turned.run;
     match answer {
-        Turn::More => refilled(fd, buf, run, have, x.used),
+        Turn::More => refilled(fd, buf, x, run, out),
         Turn::Line(k) => waiting(x, run, k, true),
         Turn::End(k) => waiting(x, run, k, false),
-        Turn::Full => emptied(out, run, have, x.last, x.used),
+        Turn::Full => emptied(out, x, run),
     }
 }
 
+// ---- the run
+
 // Turn after turn, from a fresh run to the listing's last line, and how many bytes wait. A file ends, though nothing here says so: the turns
-// are counted down.
+// are counted down, from a number that no run uses up.
 fn march_storm(
     fd: i32,
     buf: &mut [u8],
@@ -160,8 +175,8 @@ fn march_storm(
     out: &mut [u8],
     used: usize,
 ) -> usize
-    requires { ⌜ (run .cursor .at ≤ 0) × ((used ≤ length (now out)) × (3575 ≤ length (now buf))) ⌝ }
-    ensures { λ r. ⌜ r ≤ length (now (out .exit)) ⌝ }
+    requires { ⌜ Starts run used (now buf) (traverse head (now points)) (now numbers) (now out) ⌝ }
+    ensures { λ r. ⌜ (r ≤ length (now (out .exit))) × Marches fd (traverse head (now (points .entry))) run used (now (buf .entry)) (now (numbers .entry)) (now (rows .entry)) (now (out .entry)) r (now (buf .exit)) (now (numbers .exit)) (now (rows .exit)) (now (out .exit)) ⌝ }
 {
     let mut turns: u64 = 0x100_0000_0000_0000;
     let mut x = Standing {
@@ -178,7 +193,7 @@ fn march_storm(
             return x.used;
         }
     }
-    0
+    x.used
 }
 
 // The storm on a traverse that was opened.
@@ -192,8 +207,8 @@ fn print_storm(
     out: &mut [u8],
     used: usize,
 ) -> usize
-    requires { ⌜ (run .cursor .at ≤ 0) × ((used ≤ length (now out)) × (3575 ≤ length (now buf))) ⌝ }
-    ensures { λ r. ⌜ r ≤ length (now (out .exit)) ⌝ }
+    requires { ⌜ Starts run used (now buf) (traverse head (now points)) (now numbers) (now out) ⌝ }
+    ensures { λ r. ⌜ (r ≤ length (now (out .exit))) × MarchesSome (traverse head (now (points .entry))) run used (now (buf .entry)) (now (numbers .entry)) (now (rows .entry)) (now (out .entry)) r (now (buf .exit)) (now (numbers .exit)) (now (rows .exit)) (now (out .exit)) ⌝ }
 {
     let fd = os::open_read(b"storm.txt");
     let waits = march_storm(fd, buf, head, points, run, numbers, rows, out, used);
@@ -201,8 +216,7 @@ fn print_storm(
     waits
 }
 
-// A traverse that was read: the listing's names line, before `storm.txt` is opened, and the storm; or the refusal. `begin` answers `Line` or
-// `End` where the buffer has room for a line, which is not proved here: on any other answer nothing would be printed.
+// A traverse that was read: the listing's names line, written before `storm.txt` is opened, and the storm; or the refusal.
 fn print_run(
     buf: &mut [u8],
     head: Head,
@@ -211,45 +225,48 @@ fn print_run(
     rows: &mut [i64],
     out: &mut [u8],
 ) -> usize
-    requires { ⌜ 3575 ≤ length (now buf) ⌝ }
-    ensures { λ r. ⌜ r ≤ length (now (out .exit)) ⌝ }
+    requires { ⌜ (3575 ≤ length (now buf)) × ((lineRoom ≤ length (now out)) × (recordSize (count (traverse head (now points))) ≤ length (now numbers))) ⌝ }
+    ensures { λ r. ⌜ (r ≤ length (now (out .exit))) × Prints (traverse head (now (points .entry))) (now (buf .entry)) (now (numbers .entry)) (now (rows .entry)) (now (out .entry)) r (now (buf .exit)) (now (numbers .exit)) (now (rows .exit)) (now (out .exit)) ⌝ }
 {
     let begun = hydrograph::begin(head, points, out, 0);
     let answer = begun.turn;
     let run = begun.run;
     match answer {
-        Turn::Line(k) => print_storm(buf, head, points, run, numbers, rows, out, k),
+        Turn::Line(k) => match files::flush(out, k) {
+            Flushed::Failed => 0,
+            Flushed::Wrote(n) => print_storm(buf, head, points, run, numbers, rows, out, k - n),
+        },
         Turn::End(k) => k,
+        // These do not come: opening needs no text, and there is room for a line.
         Turn::More => 0,
         Turn::Full => 0,
     }
 }
 
-// A traverse text that was refused: its refusal alone, for which an empty buffer has room.
-fn print_refused(out: &mut [u8], refusal: Refusal) -> usize
-    requires { ⌜ lineRoom ≤ length (now out) ⌝ }
-    ensures { λ r. ⌜ (r ≤ length (now (out .exit))) × (afterPut (Next r) (now (out .exit)) ≡ putOf (refusalLine refusal) 0 (now (out .entry))) ⌝ }
-{
-    let place = refusal.place;
-    match listing::put_refused(out, 0, refusal.number(), place as u64) {
-        Put::Next(k) => k,
-        Put::Full => 0,
-    }
-}
-
-// The traverse goes into the lent points, each record into the lent numbers; the rows are all zero, those of a fresh traverse.
-fn run(buf: &mut [u8], points: &mut [i64], numbers: &mut [i64], rows: &mut [i64], out: &mut [u8])
-    requires { ⌜ Lent (length (now buf)) (length (now points)) (length (now rows)) (length (now out)) ⌝ }
+// The traverse goes into the lent points, each record into the lent numbers; the rows are all zero, those of a fresh traverse. Answers what
+// became of the last bytes that waited.
+fn run(
+    buf: &mut [u8],
+    points: &mut [i64],
+    numbers: &mut [i64],
+    rows: &mut [i64],
+    out: &mut [u8],
+) -> Flushed
+    requires { ⌜ Lent (length (now buf)) (now points) (now numbers) (now rows) (length (now out)) ⌝ }
+    ensures { λ r. ⌜ Runs (now (buf .entry)) (now (points .entry)) (now (numbers .entry)) (now (rows .entry)) (now (out .entry)) r (now (buf .exit)) (now (points .exit)) (now (numbers .exit)) (now (rows .exit)) (now (out .exit)) ⌝ }
 {
     let file = files::read_traverse(buf, points);
     let answer = file.answer;
     let head = file.head;
     let count = file.count;
     match answer {
-        Loaded::Failed => {}
+        Loaded::Failed => {
+            let waits = put_failed(out, 0);
+            files::flush(out, waits)
+        }
         Loaded::Refused(refusal) => {
-            let waits = print_refused(out, refusal);
-            files::flush(out, waits);
+            let waits = put_refused(out, refusal);
+            files::flush(out, waits)
         }
         Loaded::Read => {
             let points_end = Station::NUMBERS * count;
@@ -262,7 +279,7 @@ fn run(buf: &mut [u8], points: &mut [i64], numbers: &mut [i64], rows: &mut [i64]
                 &mut rows[..rows_end],
                 out,
             );
-            files::flush(out, waits);
+            files::flush(out, waits)
         }
     }
 }

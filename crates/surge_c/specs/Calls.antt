@@ -1,5 +1,7 @@
 -- The exported call that takes a record, on row structs, whatever it is given: what is returned, and everything that was lent. It is the march's own
--- definition (`takeOf`) of the rows' numbers. The other three are `lent`'s own.
+-- definition (`takeOf`) of the rows' numbers. `Takes` is the promise itself: the `ensures` of `fennhop_take_record` and the statement over lists of
+-- calls are both of it. The other three are `lent`'s own.
+use mathlib.Core.Path.{_≡_}
 use mathlib.Core.Bool.{cond}
 use mathlib.Core.List.{List}
 use Prim.Native.Nat.{ℕ}
@@ -34,3 +36,7 @@ takeWith x state rows setup answer =
 unfoldable pub takeCall : ℤ → ℤ → ℤ → List ℤ → ℤ → ℤ → List ℤ → List ℤ → List Row → List ℤ → List ℤ → LeftRows
 takeCall latitude friction initial points seconds tide storm state rows setup answer =
     takeWith (marchLeft (callOf latitude friction initial seconds tide state) points storm (numbersFrom rows) setup) state rows setup answer
+
+-- the promise of the call, on these and with this left
+abbrev pub Takes : ℤ → ℤ → ℤ → List ℤ → ℤ → ℤ → List ℤ → List ℤ → List Row → List ℤ → List ℤ → LeftRows → Type 0
+Takes latitude friction initial points seconds tide storm state rows setup answer left = left ≡ takeCall latitude friction initial points seconds tide storm state rows setup answer

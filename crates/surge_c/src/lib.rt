@@ -4,10 +4,10 @@
 use records::Row;
 use records::limits::SEGMENTS_MOST;
 ghost use mathlib.Core.Path.{_≡_};
-ghost use Rattle.lent.specs.Calls.{leftOpen, openCall};
-ghost use Rattle.lent.specs.Texts.{leftTraverse, readTraverseCall, leftRecord, readRecordCall};
+ghost use Rattle.lent.specs.Calls.{leftOpen, Opens};
+ghost use Rattle.lent.specs.Texts.{leftTraverse, ReadsTraverse, leftRecord, ReadsRecord};
 ghost use Rattle.surge_c.specs.Rows.{movedRows};
-ghost use Rattle.surge_c.specs.Calls.{leftRows, takeCall};
+ghost use Rattle.surge_c.specs.Calls.{leftRows, Takes};
 
 // Opens a traverse. `points` has 2 numbers a point. The number of the refusal is returned, 0 where the traverse is accepted.
 #[no_mangle]
@@ -19,7 +19,7 @@ pub extern "C" fn fennhop_open_traverse(
     state: &mut [i64],
     answer: &mut [i64],
 ) -> u64
-    ensures { λ r. ⌜ leftOpen r (now (state .exit)) (now (answer .exit)) ≡ openCall latitude friction initial (now (points .entry)) (now (state .entry)) (now (answer .entry)) ⌝ }
+    ensures { λ r. ⌜ Opens latitude friction initial (now (points .entry)) (now (state .entry)) (now (answer .entry)) (leftOpen r (now (state .exit)) (now (answer .exit))) ⌝ }
 {
     lent::open_traverse(latitude, friction, initial, points, state, answer)
 }
@@ -32,7 +32,7 @@ pub extern "C" fn fennhop_read_traverse(
     points: &mut [i64],
     answer: &mut [i64],
 ) -> u64
-    ensures { λ r. ⌜ leftTraverse r (now (head .exit)) (now (points .exit)) (now (answer .exit)) ≡ readTraverseCall (now (text .entry)) (now (head .entry)) (now (points .entry)) (now (answer .entry)) ⌝ }
+    ensures { λ r. ⌜ ReadsTraverse (now (text .entry)) (now (head .entry)) (now (points .entry)) (now (answer .entry)) (leftTraverse r (now (head .exit)) (now (points .exit)) (now (answer .exit))) ⌝ }
 {
     lent::read_traverse(text, head, points, answer)
 }
@@ -47,7 +47,7 @@ pub extern "C" fn fennhop_read_record(
     storm: &mut [i64],
     answer: &mut [i64],
 ) -> u64
-    ensures { λ r. ⌜ leftRecord r (now (cursor .exit)) (now (values .exit)) (now (storm .exit)) (now (answer .exit)) ≡ readRecordCall (now (text .entry)) count (now (cursor .entry)) (now (values .entry)) (now (storm .entry)) (now (answer .entry)) ⌝ }
+    ensures { λ r. ⌜ ReadsRecord (now (text .entry)) count (now (cursor .entry)) (now (values .entry)) (now (storm .entry)) (now (answer .entry)) (leftRecord r (now (cursor .exit)) (now (values .exit)) (now (storm .exit)) (now (answer .exit))) ⌝ }
 {
     lent::read_record(text, count, cursor, values, storm, answer)
 }
@@ -75,7 +75,7 @@ pub extern "C" fn fennhop_take_record(
     setup: &mut [i64],
     answer: &mut [i64],
 ) -> u64
-    ensures { λ r. ⌜ leftRows r (now (state .exit)) (now (rows .exit)) (now (setup .exit)) (now (answer .exit)) ≡ takeCall latitude friction initial (now (points .entry)) seconds tide (now (storm .entry)) (now (state .entry)) (now (rows .entry)) (now (setup .entry)) (now (answer .entry)) ⌝ }
+    ensures { λ r. ⌜ Takes latitude friction initial (now (points .entry)) seconds tide (now (storm .entry)) (now (state .entry)) (now (rows .entry)) (now (setup .entry)) (now (answer .entry)) (leftRows r (now (state .exit)) (now (rows .exit)) (now (setup .exit)) (now (answer .exit))) ⌝ }
 {
     let n = rows.len();
     let m = moved_rows(n);

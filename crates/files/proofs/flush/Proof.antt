@@ -1,5 +1,5 @@
 -- `files::flush` meets its contract. Assumes nothing.
-use mathlib.Core.Path.{sym}
+use mathlib.Core.Path.{refl, sym}
 use lib.Seq.{length-take-le}
 use denote.Ref.{now}
 use borrow.Author.Needs.{needs}
@@ -19,7 +19,7 @@ fail-requires : tie.Need-fail-requires
 fail-requires c κs = search needs
 
 returns : tie.Need-returns
-returns c = search needs
+returns c = refl
 
 returns-2 : tie.Need-returns-2
 returns-2 c = search needs
@@ -30,7 +30,7 @@ flush-spec =
     (tie.spec
     slice-aggregate-write-all
     write-all-requires
+    returns
     slice-aggregate-fail
     fail-requires
-    returns
     returns-2)

@@ -11,23 +11,26 @@ use Rattle.files.proofs.refill.Tie as tie
 shift-requires : tie.Need-shift-requires
 shift-requires c κs = search needs
 
-sub-read : tie.Need-sub-read
-sub-read c = search needs
+sub-read-through : tie.Need-sub-read-through
+sub-read-through c = search needs
 
-part-read-start : tie.Need-part-read-start
-part-read-start c = search needs
+part-read-through-start : tie.Need-part-read-through-start
+part-read-through-start c = search needs
 
-part-read-end : tie.Need-part-read-end
-part-read-end c = search needs
+part-read-through-end : tie.Need-part-read-through-end
+part-read-through-end c = search needs
 
-read-requires : tie.Need-read-requires
-read-requires c κs = search needs
+read-through-requires : tie.Need-read-through-requires
+read-through-requires c κs = search needs
 
 same-length : tie.Need-same-length
 same-length c = search needs
 
 returns : tie.Need-returns
-returns c = search needs
+returns c =
+    let s = c .before .before .before .before .before .before .before .shift in
+    let f : s .result ≤ length (s .last .0) = omega (arith, s .kept .0, s .ensures .0) in
+    λ j h. put-front (s .result) (length (s .last .0) - s .result) (s .last .0) (c .before .before .before .read-through .last .1 .0) f j (omega (arith, s .ensures .0)) ∙ s .ensures .1 j (omega (arith, s .ensures .0))
 
 sub-count : tie.Need-sub-count
 sub-count c = search needs
@@ -50,27 +53,24 @@ same-length-2 c = search needs
 returns-2 : tie.Need-returns-2
 returns-2 c =
     let s = c .before .before .before .before .before .before .before .before .before .before .shift in
-    let r = c .before .before .before .before .before .before .read in
-    let f : s .result ≤ length (s .last .0) = omega (arith, s .kept .0, s .ensures .0) in (
-      omega (arith, put-long (s .result) (length (s .last .0) - s .result) (s .last .0) (r .last .1 .0) f, c .count .ensures .0 .0),
-      (
-        omega (arith, s .ensures .0),
-        (
-          λ j h. put-front (s .result) (length (s .last .0) - s .result) (s .last .0) (r .last .1 .0) f j (omega (arith, s .ensures .0)) ∙ s .ensures .1 j (omega (arith, s .ensures .0)),
-          none-read (c .count .result) (s .result) _ (s .ensures .0),
-        ),
-      ),
-    )
+    let r = c .before .before .before .before .before .before .read-through in
+    let f : s .result ≤ length (s .last .0) = omega (arith, s .kept .0, s .ensures .0) in
+    record {
+      within = omega (arith, put-long (s .result) (length (s .last .0) - s .result) (s .last .0) (r .last .1 .0) f, c .count .ensures .0 .0);
+      least = omega (arith, s .ensures .0);
+      left = λ j h. put-front (s .result) (length (s .last .0) - s .result) (s .last .0) (r .last .1 .0) f j (omega (arith, s .ensures .0)) ∙ s .ensures .1 j (omega (arith, s .ensures .0));
+      ended = none-read (c .count .result) (s .result) _ (s .ensures .0);
+    }
 
 pub refill-spec : {M : Type 1} → statement M
 refill-spec =
     tie.close
     (tie.spec
     shift-requires
-    sub-read
-    part-read-start
-    part-read-end
-    read-requires
+    sub-read-through
+    part-read-through-start
+    part-read-through-end
+    read-through-requires
     same-length
     returns
     sub-count

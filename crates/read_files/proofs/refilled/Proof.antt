@@ -35,7 +35,7 @@ same-length-2 c = search needs
 returns-2 : tie.Need-returns-2
 returns-2 c =
     let e = subst (λ (x : Filled). Refilled x (now (c .before .before .before .before .before .before .before .before .before .args .buf)) (c .before .before .before .before .before .refill .last .1 .0) (c .before .before .before .before .before .before .before .before .before .args .x .c .at) (c .before .before .before .before .before .before .before .before .before .args .x .have)) (c .before .n .given .1) (c .before .before .before .before .before .refill .ensures) in
-    record { place = omega arith; held = e .0; waits = omega arith }
+    record { place = omega arith; held = e .within; waits = omega arith }
 
 pub refilled-spec : {M : Type 1} → statement M
 refilled-spec =

@@ -4,6 +4,7 @@ use native.Mathlib.Omega.{arith}
 use lib.ListN.{length}
 use Rattle.files.specs.declared.Loaded.{Loaded}
 use Rattle.files.specs.TraverseFile.{HasPoints}
+use Rattle.files.proofs.PointsRead.{loads-has}
 use borrow.Author.Needs.{needs}
 use Rattle.read_files.proofs.run.Statement.{statement}
 use Rattle.read_files.proofs.run.Tie as tie
@@ -30,7 +31,7 @@ print-run-requires : tie.Need-print-run-requires
 print-run-requires c κs =
     let k = c .before .before .before .before .before .before .before .before .before .before .read-traverse in
     let p = c .before .before .before .before .before .before .before .before .before .before .before .before .before .before .before .pre in
-    let h = subst (λ (x : Loaded). HasPoints x (k .result .count) (length (k .last .1 .0))) (c .before .before .before .before .enum-told2 .given .1) (k .ensures) in
+    let h = subst (λ (x : Loaded). HasPoints x (k .result .count) (length (k .last .1 .0))) (c .before .before .before .before .enum-told2 .given .1) (loads-has _ _ _ _ _ _ (k .ensures .loads)) in
     (h .1, (omega (arith, h .1, k .kept .1 .0, p .points-most, p .record-holds), (p .out-some, omega (arith, k .kept .0, p .window-holds))))
 
 flush-requires-2 : tie.Need-flush-requires-2

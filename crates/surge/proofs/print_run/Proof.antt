@@ -1,22 +1,29 @@
 -- `surge::print_run` meets its contract. Assumes nothing.
-use mathlib.Core.Path.{subst}
+use mathlib.Core.Path.{_≡_, refl, subst}
+use mathlib.Core.Bool.{true, false}
+use mathlib.Core.List.{[]}
 use native.Mathlib.Omega.{arith}
-use Prim.Native.Nat.{_≤_}
-use lib.ListN.{length}
+use Prim.Native.Nat.{_-_}
 use denote.Ref.{now}
 use Rattle.records.specs.Shapes.{traverse}
-use Rattle.surge.proofs.TurnEnds.{Placed, begin-ends}
+use Rattle.files.specs.declared.Flushed.{Flushed}
+use Rattle.files.specs.Filled.{Flushes}
+use Rattle.hydrograph.specs.declared.Turn.{Turn}
+use Rattle.hydrograph.specs.declared.Turn.the-variants as turn
+use Rattle.hydrograph.specs.Turns.{leftTurn}
+use Rattle.surge.specs.Printed.{beginOn}
+use Rattle.surge.proofs.Begun.{Begun, begin-begun, prints, begun-told, from-nought}
 use borrow.Author.Needs.{needs}
 use Rattle.surge.proofs.print_run.Statement.{statement}
 use Rattle.surge.proofs.print_run.Tie as tie
 
--- the cursor stands at the start, and the place is within the buffer
-begun : (c : tie.After-begin) → (c .begin .result .run .cursor .at ≤ 0)
-    × Placed 0 (length (now (c .before .before .before .before .args .out))) (c .begin .result .run .cursor .at) (c .begin .result .turn)
-begun c =
-    let s = c .before .before .before .before .args in
-    let y = begin-ends (traverse (s .head) (now (s .points))) 0 (now (s .out)) (c .begin .last .1 .1 .0) (c .begin .result) (omega arith) (c .begin .kept .1 .1 .0) (c .begin .ensures) in
-    (y .cursor, y .place)
+-- what `begin` answered, where the answer is known
+told : (c : tie.After-begin) → let s = c .before .before .before .before .args in leftTurn (c .begin .result) [] [] (c .begin .last .1 .1 .0) ≡ beginOn (traverse (s .head) (now (s .points))) (now (s .out))
+told c = let s = c .before .before .before .before .args in begun-told (traverse (s .head) (now (s .points))) (now (s .out)) (c .begin .result) (c .begin .last .1 .1 .0) (c .begin .ensures)
+
+begun : (c : tie.After-begin) (k : Turn) → c .begin .result .turn ≡ k → let s = c .before .before .before .before in
+    Begun (traverse (s .args .head) (now (s .args .points))) (now (s .args .out)) (s .pre .1 .0) (leftTurn (c .begin .result) [] [] (c .begin .last .1 .1 .0)) k
+begun c k e = let s = c .before .before .before .before in begin-begun (traverse (s .args .head) (now (s .args .points))) (now (s .args .out)) (s .pre .1 .0) (c .begin .result) (c .begin .last .1 .1 .0) (told c) (c .begin .kept .1 .1 .0) k e
 
 begin-requires : tie.Need-begin-requires
 begin-requires c κs = search needs
@@ -24,23 +31,49 @@ begin-requires c κs = search needs
 enum-known-answer : tie.Need-enum-known-answer
 enum-known-answer c = search needs
 
-print-storm-requires : tie.Need-print-storm-requires
-print-storm-requires c κs =
-    let b = c .before .before .before .before .before .before .before .before .before .before in
-    let p = subst (Placed 0 (length (now (b .before .before .before .before .args .out))) (b .begin .result .run .cursor .at)) (c .before .before .before .before .before .answer .given .1) (begun b .1) in
-    (begun b .0, (omega (arith, p, b .begin .kept .1 .1 .0), search needs))
-
-enum-known-answer-2 : tie.Need-enum-known-answer-2
-enum-known-answer-2 c = search needs
+flush-requires : tie.Need-flush-requires
+flush-requires c κs =
+    let b = c .before .before .before .before .before .before .before in
+    omega (arith, begun b _ (c .before .before .answer .given .1) .0, b .begin .kept .1 .1 .0)
 
 enum-told : tie.Need-enum-told
 enum-told c = search needs
 
+enum-known-n : tie.Need-enum-known-n
+enum-known-n c = search needs
+
+sub-print-storm : tie.Need-sub-print-storm
+sub-print-storm c =
+    let n = subst (λ (x : Flushed). Flushes x (c .before .before .before .before .before .before .before .before .before .before .answer .given .0 .0)) (c .before .before .before .before .before .n .given .1) (c .before .before .before .before .before .before .before .flush .ensures) in
+    omega arith
+
+print-storm-requires : tie.Need-print-storm-requires
+print-storm-requires c κs =
+    let b = c .before .before .before .before .before .before .before .before .before .before .before .before .before .before .before in
+    let p = b .before .before .before .before .pre in
+    let g = begun b _ (c .before .before .before .before .before .before .before .before .before .before .answer .given .1) in
+    record { place = g .1; waits = omega (arith, g .0, b .begin .kept .1 .1 .0); window-holds = p .0; out-holds = omega (arith, p .1 .0, b .begin .kept .1 .1 .0); record-holds = p .1 .1 }
+
+enum-known-answer-2 : tie.Need-enum-known-answer-2
+enum-known-answer-2 c = search needs
+
 enum-told-2 : tie.Need-enum-told-2
 enum-told-2 c = search needs
 
+enum-told-3 : tie.Need-enum-told-3
+enum-told-3 c = search needs
+
 same-length : tie.Need-same-length
 same-length c = search needs
+
+returns : tie.Need-returns
+returns c =
+    let b = c .before .before .before .before .before .before .before .before .before .before in
+    let s = b .before .before .before .before in (
+      omega arith,
+      prints (traverse (s .args .head) (now (s .args .points))) (now (s .args .out)) (s .pre .1 .0) (b .begin .result) (b .begin .last .1 .1 .0) (told b) _ (c .before .before .before .before .before .answer .given .1) false _ _ _ _ _ _ _ _
+          (refl, refl, record { window-same = refl; numbers-same = refl; rows-same = refl }),
+    )
 
 same-length-2 : tie.Need-same-length-2
 same-length-2 c = search needs
@@ -51,29 +84,46 @@ same-length-3 c = search needs
 same-length-4 : tie.Need-same-length-4
 same-length-4 c = search needs
 
-returns : tie.Need-returns
-returns c = search needs
-
 same-length-5 : tie.Need-same-length-5
 same-length-5 c = search needs
 
 returns-2 : tie.Need-returns-2
 returns-2 c =
-    let b = c .before .before .before .before .before .before in
-    let p = subst (Placed 0 (length (now (b .before .before .before .before .args .out))) (b .begin .result .run .cursor .at)) (c .before .answer2 .given .1) (begun b .1) in
-    omega (arith, p, b .begin .kept .1 .1 .0)
+    let b = c .before .before .before .before .before .before .before .before .before .before .before .before .before .before .before .before .before .before .before .before .before .before in
+    let s = b .before .before .before .before in
+    let p = c .before .before .before .before .before .before .print-storm .ensures in
+    let k = c .before .before .before .before .before .before .before .before .before .before .before .before .before .before .before .before .before .answer .given in
+    let n = subst (λ (x : Flushed). Flushes x (k .0 .0)) (c .before .before .before .before .before .before .before .before .before .before .before .before .n .given .1) (c .before .before .before .before .before .before .before .before .before .before .before .before .before .before .flush .ensures) in
+    let z : k .0 .0 - c .before .before .before .before .before .before .before .before .before .before .before .before .n .given .0 .0 ≡ 0 = omega arith in (
+      p .0,
+      prints (traverse (s .args .head) (now (s .args .points))) (now (s .args .out)) (s .pre .1 .0) (b .begin .result) (b .begin .last .1 .1 .0) (told b) _ (k .1) true _ _ _ _ _ _ _ _
+          (from-nought z (p .1)),
+    )
 
 same-length-6 : tie.Need-same-length-6
 same-length-6 c = search needs
 
 returns-3 : tie.Need-returns-3
-returns-3 c = search needs
+returns-3 c =
+    let b = c .before .before .before .before .before .before in
+    let s = b .before .before .before .before in
+    let k = c .before .answer2 .given in (
+      omega (arith, begun b _ (k .1), b .begin .kept .1 .1 .0),
+      prints (traverse (s .args .head) (now (s .args .points))) (now (s .args .out)) (s .pre .1 .0) (b .begin .result) (b .begin .last .1 .1 .0) (told b) _ (k .1) true _ _ _ _ _ _ _ _
+          (refl, refl, record { window-same = refl; numbers-same = refl; rows-same = refl }),
+    )
 
 same-length-7 : tie.Need-same-length-7
 same-length-7 c = search needs
 
 returns-4 : tie.Need-returns-4
-returns-4 c = search needs
+returns-4 c = absurd (begun (c .before .before .before .before .before) turn.More (c .enum-told2 .given .1))
+
+same-length-8 : tie.Need-same-length-8
+same-length-8 c = search needs
+
+returns-5 : tie.Need-returns-5
+returns-5 c = absurd (begun (c .before .before .before .before .before) turn.Full (c .enum-told3 .given .1))
 
 pub print-run-spec : {M : Type 1} → statement M
 print-run-spec =
@@ -81,18 +131,24 @@ print-run-spec =
     (tie.spec
     begin-requires
     enum-known-answer
+    flush-requires
+    enum-told
+    enum-known-n
+    sub-print-storm
     print-storm-requires
     enum-known-answer-2
-    enum-told
     enum-told-2
+    enum-told-3
     same-length
+    returns
     same-length-2
     same-length-3
     same-length-4
-    returns
     same-length-5
     returns-2
     same-length-6
     returns-3
     same-length-7
-    returns-4)
+    returns-4
+    same-length-8
+    returns-5)

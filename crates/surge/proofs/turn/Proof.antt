@@ -1,34 +1,44 @@
 -- `surge::turn` meets its contract. Assumes nothing.
-use mathlib.Core.Path.{_≡_, refl, sym, ap, subst}
+use mathlib.Core.Path.{_≡_, refl, sym, subst}
+use mathlib.Core.List.{List}
 use native.Mathlib.Omega.{arith}
-use Prim.Native.Nat.{_≤_}
+use Prim.Native.Nat.{ℕ, _≤_}
 use lib.ListN.{length}
 use lib.Seq.{length-take-le}
 use denote.Ref.{now}
-use Rattle.records.specs.Shapes.{traverse}
+use Rattle.records.specs.Shapes.{Traverse, traverse}
 use Rattle.hydrograph.specs.declared.Turn.{Turn}
 use Rattle.hydrograph.specs.declared.Turn.the-variants as turn
 use Rattle.hydrograph.specs.Turns.{leftTurn}
 use Rattle.surge.specs.declared.Standing.{Standing}
-use Rattle.surge.specs.Standing.{frontOf, turnOn, Moves, Moved}
-use Rattle.surge.proofs.TurnEnds.{Placed, turn-stays, carries, moved}
+use Rattle.surge.specs.Standing.{Memory, memory, Moves, Moved}
+use Rattle.surge.proofs.TurnEnds.{Placed, turn-stays, moved, stands-with, stands-read}
 use borrow.Author.Needs.{needs}
 use Rattle.surge.proofs.turn.Statement.{statement}
 use Rattle.surge.proofs.turn.Tie as tie
 
+-- what the turn was made on
+abbrev over : tie.After-storm-turn → Traverse
+over c = let s = c .before .before .before .before .before .before .before .before .args in traverse (s .head) (now (s .points))
+
+abbrev before : tie.After-storm-turn → Memory
+before c = let s = c .before .before .before .before .before .before .before .before .args in memory (s .x) (now (s .buf)) (now (s .numbers)) (now (s .rows)) (now (s .out))
+
 -- the cursor and the place of the turn, which are in the window and in the buffer
-stays : (c : tie.After-storm-turn) → (c .storm-turn .result .run .cursor .at ≤ c .before .before .before .before .before .before .before .before .args .x .have)
-    × Placed (c .before .before .before .before .before .before .before .before .args .x .have) (length (now (c .before .before .before .before .before .before .before .before .args .out))) (c .storm-turn .result .run .cursor .at) (c .storm-turn .result .turn)
+stays : (c : tie.After-storm-turn) → (c .storm-turn .result .run .cursor .at ≤ before c .standing .have)
+    × Placed (before c .standing .have) (length (before c .out)) (c .storm-turn .result .run .cursor .at) (before c .standing .used) (c .storm-turn .result .turn)
 stays c =
-    let s = c .before .before .before .before .before .before .before .before in
-    turn-stays (traverse (s .args .head) (now (s .args .points))) (s .args .x .used) (now (s .args .out)) (c .storm-turn .last .1 .1 .1 .1 .1 .1 .1 .0) (c .storm-turn .result) (s .pre .0 .waits) (c .storm-turn .kept .1 .1 .1 .1 .1 .1 .1 .0)
-    (s .args .x .run) (now (s .args .buf)) (s .args .x .have) (s .args .x .last) (now (s .args .numbers)) (now (s .args .rows)) (c .storm-turn .last .1 .1 .1 .1 .1 .0) (c .storm-turn .last .1 .1 .1 .1 .1 .1 .0) (s .pre .0 .held) (s .pre .0 .place) (c .storm-turn .ensures)
+    let p = c .before .before .before .before .before .before .before .before .pre in
+    turn-stays (over c) (before c) (c .storm-turn .result) (c .storm-turn .last .1 .1 .1 .1 .1 .0) (c .storm-turn .last .1 .1 .1 .1 .1 .1 .0) (c .storm-turn .last .1 .1 .1 .1 .1 .1 .1 .0) (p .0 .held) (p .0 .place) (p .0 .waits) (p .1 .1 .0) (p .1 .1 .1) (c .storm-turn .kept .1 .1 .1 .1 .1 .1 .1 .0) (c .storm-turn .ensures)
+
+-- the same where the answer is known
+placed : (c : tie.After-storm-turn) (k : Turn) → c .storm-turn .result .turn ≡ k → Placed (before c .standing .have) (length (before c .out)) (c .storm-turn .result .run .cursor .at) (before c .standing .used) k
+placed c k e = subst (Placed (before c .standing .have) (length (before c .out)) (c .storm-turn .result .run .cursor .at) (before c .standing .used)) e (stays c .1)
 
 -- what was done with the answer, from its case
-done : (c : tie.After-storm-turn) (k : Turn) → c .storm-turn .result .turn ≡ k → (r : Standing)
-    → Moves k (leftTurn (c .storm-turn .result) (c .storm-turn .last .1 .1 .1 .1 .1 .0) (c .storm-turn .last .1 .1 .1 .1 .1 .1 .0) (c .storm-turn .last .1 .1 .1 .1 .1 .1 .1 .0)) (c .before .before .before .before .before .before .before .before .args .x) r
-    → Moved (turnOn (traverse (c .before .before .before .before .before .before .before .before .args .head) (now (c .before .before .before .before .before .before .before .before .args .points))) (c .before .before .before .before .before .before .before .before .args .x) (now (c .before .before .before .before .before .before .before .before .args .buf)) (now (c .before .before .before .before .before .before .before .before .args .numbers)) (now (c .before .before .before .before .before .before .before .before .args .rows)) (now (c .before .before .before .before .before .before .before .before .args .out))) (c .before .before .before .before .before .before .before .before .args .x) r (c .storm-turn .last .1 .1 .1 .1 .1 .0) (c .storm-turn .last .1 .1 .1 .1 .1 .1 .0) (c .storm-turn .last .1 .1 .1 .1 .1 .1 .1 .0)
-done c k f r m = moved (c .storm-turn .result) (c .storm-turn .last .1 .1 .1 .1 .1 .0) (c .storm-turn .last .1 .1 .1 .1 .1 .1 .0) (c .storm-turn .last .1 .1 .1 .1 .1 .1 .1 .0) _ (c .storm-turn .ensures) k f (c .before .before .before .before .before .before .before .before .args .x) r m
+done : (c : tie.After-storm-turn) (k : Turn) → c .storm-turn .result .turn ≡ k → (r : Standing) (window out : List ℕ)
+    → Moves k (leftTurn (c .storm-turn .result) (c .storm-turn .last .1 .1 .1 .1 .1 .0) (c .storm-turn .last .1 .1 .1 .1 .1 .1 .0) (c .storm-turn .last .1 .1 .1 .1 .1 .1 .1 .0)) (before c) (memory r window (c .storm-turn .last .1 .1 .1 .1 .1 .0) (c .storm-turn .last .1 .1 .1 .1 .1 .1 .0) out) → Moved (over c) (before c) (memory r window (c .storm-turn .last .1 .1 .1 .1 .1 .0) (c .storm-turn .last .1 .1 .1 .1 .1 .1 .0) out)
+done c k e r window out m = moved (over c) (before c) (c .storm-turn .result) (c .storm-turn .last .1 .1 .1 .1 .1 .0) (c .storm-turn .last .1 .1 .1 .1 .1 .1 .0) (c .storm-turn .last .1 .1 .1 .1 .1 .1 .1 .0) (c .storm-turn .ensures) k e (memory r window (c .storm-turn .last .1 .1 .1 .1 .1 .0) (c .storm-turn .last .1 .1 .1 .1 .1 .1 .0) out) refl refl m
 
 slice-reshare-prefix-storm-turn : tie.Need-slice-reshare-prefix-storm-turn
 slice-reshare-prefix-storm-turn c = search needs
@@ -44,10 +54,10 @@ enum-told c = search needs
 
 refilled-requires : tie.Need-refilled-requires
 refilled-requires c κs =
-    let k = c .before .before .before .before .before .before .before .before in
+    let k = c .before .before .before .before .before .before .before .before .before in
     let s = k .before .before .before .before .before .before .before .before in
-    let p = subst (Placed (s .args .x .have) (length (now (s .args .out))) (k .storm-turn .result .run .cursor .at)) (c .before .enum-told .given .1) (stays k .1) in
-    record { place = stays k .0; held = s .pre .0 .held; room = omega (arith, stays k .0) }
+    let p = placed k turn.More (c .before .before .enum-told .given .1) in
+    (record { place = stays k .0; held = s .pre .0 .held; room = omega (arith, stays k .0, p .0) }, omega (arith, p .1, k .storm-turn .kept .1 .1 .1 .1 .1 .1 .1 .0))
 
 enum-known-answer : tie.Need-enum-known-answer
 enum-known-answer c = search needs
@@ -65,7 +75,7 @@ enum-told-2 : tie.Need-enum-told-2
 enum-told-2 c = search needs
 
 emptied-requires : tie.Need-emptied-requires
-emptied-requires c κs = (stays (c .before .before .before .before .before .before .before .before) .0, search needs)
+emptied-requires c κs = omega (arith, c .before .before .before .before .before .before .before .before .before .before .before .before .before .before .before .before .pre .0 .waits, c .before .before .before .before .before .before .before .before .storm-turn .kept .1 .1 .1 .1 .1 .1 .1 .0)
 
 same-length : tie.Need-same-length
 same-length c = search needs
@@ -81,11 +91,13 @@ same-length-4 c = search needs
 
 returns : tie.Need-returns
 returns c =
-    let e = c .before .before .refilled .ensures in
-    let r = c .before .before .refilled .result in
-    let k = c .before .before .before .before .before .before .before .before .before .before .before in (
-      record { place = e .0 .place; held = e .0 .held; waits = omega (arith, e .0 .waits, k .storm-turn .kept .1 .1 .1 .1 .1 .1 .1 .0, k .before .before .before .before .before .before .before .before .pre .0 .waits) },
-      done k turn.More (c .before .before .before .before .enum-told .given .1) r (λ h. let f = e .1 h in (f .waits, carries (k .storm-turn .result) (k .storm-turn .last .1 .1 .1 .1 .1 .0) (k .storm-turn .last .1 .1 .1 .1 .1 .1 .0) (k .storm-turn .last .1 .1 .1 .1 .1 .1 .1 .0) r (frontOf (k .storm-turn .result .run)) (f .same) refl refl)),
+    let k = c .before .before .before .before .before .before .before .before .before .before .before .before .before .before in
+    let s = k .before .before .before .before .before .before .before .before in
+    let f = c .before .before .before .before .refilled in
+    let g = c .before .before .before .before .before .before .before .enum-told .given .1 in
+    let p = placed k turn.More g in (
+      stands-read _ (s .args .x) (f .result) _ _ _ _ (f .ensures) (stays k .0) (omega (arith, s .pre .0 .held, f .kept .1 .0)) (omega (arith, p .1, k .storm-turn .kept .1 .1 .1 .1 .1 .1 .1 .0, f .kept .1 .1 .1 .1 .0)),
+      done k turn.More g (f .result) _ _ (f .ensures),
     )
 
 same-length-5 : tie.Need-same-length-5
@@ -105,11 +117,10 @@ returns-2 c =
     let k = c .before .before .before .before .before .before .before .before .before in
     let s = k .before .before .before .before .before .before .before .before in
     let a = c .before .before .answer .given in
-    let p = subst (Placed (s .args .x .have) (length (now (s .args .out))) (k .storm-turn .result .run .cursor .at)) (a .1) (stays k .1) in
-    let r = c .waiting .result in
+    let p = placed k (turn.Line (a .0 .0)) (a .1) in
     let e = c .waiting .ensures in (
-      record { place = rw e (stays k .0); held = rw e (s .pre .0 .held); waits = rw e (omega (arith, k .storm-turn .kept .1 .1 .1 .1 .1 .1 .1 .0)) },
-      done k (turn.Line (a .0 .0)) (a .1) r (rw e refl, rw e refl, record { have = rw e refl; last = rw e refl }, carries (k .storm-turn .result) (k .storm-turn .last .1 .1 .1 .1 .1 .0) (k .storm-turn .last .1 .1 .1 .1 .1 .1 .0) (k .storm-turn .last .1 .1 .1 .1 .1 .1 .1 .0) r (k .storm-turn .result .run) (ap (λ (z : Standing). z .run) e) refl refl),
+      stands-with (s .args .x) _ _ _ (c .waiting .result) _ _ e (stays k .0) (s .pre .0 .held) (omega (arith, p, k .storm-turn .kept .1 .1 .1 .1 .1 .1 .1 .0)),
+      done k (turn.Line (a .0 .0)) (a .1) (c .waiting .result) _ _ (record { same = e; window = refl; out = refl }),
     )
 
 same-length-9 : tie.Need-same-length-9
@@ -129,11 +140,10 @@ returns-3 c =
     let k = c .before .before .before .before .before .before .before .before .before in
     let s = k .before .before .before .before .before .before .before .before in
     let a = c .before .before .answer2 .given in
-    let p = subst (Placed (s .args .x .have) (length (now (s .args .out))) (k .storm-turn .result .run .cursor .at)) (a .1) (stays k .1) in
-    let r = c .waiting2 .result in
+    let p = placed k (turn.End (a .0 .0)) (a .1) in
     let e = c .waiting2 .ensures in (
-      record { place = rw e (stays k .0); held = rw e (s .pre .0 .held); waits = rw e (omega (arith, k .storm-turn .kept .1 .1 .1 .1 .1 .1 .1 .0)) },
-      done k (turn.End (a .0 .0)) (a .1) r (rw e refl, rw e refl),
+      stands-with (s .args .x) _ _ _ (c .waiting2 .result) _ _ e (stays k .0) (s .pre .0 .held) (omega (arith, p, k .storm-turn .kept .1 .1 .1 .1 .1 .1 .1 .0)),
+      done k (turn.End (a .0 .0)) (a .1) (c .waiting2 .result) _ _ (record { same = e; window = refl; out = refl }),
     )
 
 same-length-13 : tie.Need-same-length-13
@@ -150,17 +160,12 @@ same-length-16 c = search needs
 
 returns-4 : tie.Need-returns-4
 returns-4 c =
-    let e = c .emptied .ensures in
-    let r = c .emptied .result in
     let k = c .before .before .before .before .before .before .before .before .before in
-    let s = k .before .before .before .before .before .before .before .before in (
-      record { place = e .0 .place; held = omega (arith, e .0 .held, s .pre .0 .held); waits = omega (arith, e .0 .waits) },
-      done k turn.Full (c .before .before .enum-told2 .given .1) r
-          (λ h. let f = e .1 h in (
-            ap (λ (z : Standing). z .used) f,
-            record { have = ap (λ (z : Standing). z .have) f; last = ap (λ (z : Standing). z .last) f },
-            carries (k .storm-turn .result) (k .storm-turn .last .1 .1 .1 .1 .1 .0) (k .storm-turn .last .1 .1 .1 .1 .1 .1 .0) (k .storm-turn .last .1 .1 .1 .1 .1 .1 .1 .0) r (k .storm-turn .result .run) (ap (λ (z : Standing). z .run) f) refl refl,
-          )),
+    let s = k .before .before .before .before .before .before .before .before in
+    let g = c .before .before .enum-told2 .given .1 in
+    let e = c .emptied .ensures in (
+      stands-with (s .args .x) _ 0 _ (c .emptied .result) _ _ e (stays k .0) (s .pre .0 .held) (omega arith),
+      done k turn.Full g (c .emptied .result) _ _ (placed k turn.Full g, record { same = e; window = refl; out = refl }),
     )
 
 pub turn-spec : {M : Type 1} → statement M

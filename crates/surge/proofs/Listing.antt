@@ -1,0 +1,242 @@
+-- What a run printed is the listing of the texts that it read, by the turns (`turns-tell`) and by what reading the traverse came to (`file-tells` of
+-- `files`). Assumes nothing.
+use mathlib.Core.Path.{_≡_, refl, sym, ap, subst, _∙_}
+use mathlib.Core.Bool.{Bool, true, false}
+use mathlib.Core.List.{List, [], _∷_, _++_, append-assoc}
+use native.Mathlib.Omega.{arith}
+use Prim.Native.Nat.{ℕ, zero, suc, _+_, _-_, _*_, _≤_}
+use lib.ListN.{length, take, getD, replicate}
+use lib.Seq.{length-take-le}
+use lib.IntN.{ℤ, pos}
+use Rattle.records.specs.declared.Refusal.{Refusal}
+use Rattle.records.specs.Groups.{wholes, ofRow, groups, flat}
+use Rattle.records.specs.Limits.{mostPoints}
+use Rattle.records.specs.Rows.{freshRow}
+use Rattle.records.specs.declared.Row.{Row}
+use Rattle.records.specs.Shapes.{Traverse, count, traverse}
+use Rattle.records.proofs.GroupLaws.{groups-length}
+use Rattle.reader.specs.declared.traverse.Known.{Known}
+use Rattle.reader.specs.declared.traverse.TraverseRead.{TraverseRead}
+use Rattle.reader.specs.declared.traverse.Whole.{Whole}
+use Rattle.reader.specs.declared.traverse.Whole.the-variants as whole-read
+use Rattle.reader.specs.Lines.{Outcome, read, refused, Leaves, leaves}
+use Rattle.reader.specs.Traverse.{held, start, noHead, noPoints, restAt, traverseRead, traverseLeft, traverseBy, traverseOf}
+use Rattle.reader.specs.Storm.{recordSize, stormOf}
+use Rattle.reader.proofs.LentLaws.{wholes-times}
+use Rattle.listing.specs.Lines.{namesLine, refusedLine, failedLine}
+use Rattle.listing.specs.Put.{written}
+use Rattle.march.specs.Answers.{ToldOpen, opened, notOpened}
+use Rattle.march.specs.Given.{segments}
+use Rattle.march.specs.Checks.{openOf}
+use Rattle.march.specs.March.{freshRowAt}
+use Rattle.march.specs.Demand3.{freshRows}
+use Rattle.files.specs.declared.Flushed.{Flushed}
+use Rattle.files.specs.declared.Flushed.the-variants as flushed
+use Rattle.files.specs.declared.Loaded.{Loaded}
+use Rattle.files.specs.declared.Loaded.the-variants as loaded
+use Rattle.files.specs.declared.TraverseFile.{TraverseFile}
+use Rattle.files.specs.Filled.{Flushes}
+use Rattle.files.specs.TraverseFile.{Continues, Tells, HasPoints}
+use Rattle.files.specs.TraverseFile as files
+use Rattle.files.proofs.PointsRead.{loads-has}
+use Rattle.files.proofs.Reached.{file-tells}
+use Rattle.hydrograph.specs.Listing.{refusalLine, stormLines, afterOpening, afterTraverse, listingOf}
+use Rattle.hydrograph.specs.Turns.{Begins, LeftTurn, lineRoom}
+use Rattle.surge.specs.Standing.{noRows, Memory, memory}
+use Rattle.surge.specs.Printed.{textRead, wroteOn, begunAt, MarchesSome, beginOn, AfterBegin, traverseIn, rowsIn, AfterFile}
+use Rattle.surge.specs.Listing.{How, whole, read-failed, cut-short, PrintedOf, howMarched, cameTo, cameBy, cameAfter, cameFrom, WroteLast, RunPrints}
+use Rattle.surge.proofs.Begun.{begunBy, begin-is}
+use Rattle.surge.proofs.Turns.{take-written, turns-tell}
+
+-- ---- the rows that `main` lends are those of a fresh traverse
+
+zeros : (n m : ℕ) → n ≤ m → take n (replicate m (pos 0)) ≡ replicate n (pos 0)
+zeros zero m h = refl
+zeros (suc n) zero h = absurd (omega arith)
+zeros (suc n) (suc m) h = ap (λ (l : List ℤ). pos 0 ∷ l) (zeros n m (omega arith))
+
+flat-zeros : (rows : List Row) → ((i : ℕ) → getD rows i freshRow ≡ freshRow) → flat ofRow rows ≡ replicate (3 * length rows) (pos 0)
+unfolding flat
+flat-zeros [] h = refl
+flat-zeros (v ∷ rows) h =
+    let e : suc (suc (suc (3 * length rows))) ≡ 3 * suc (length rows) = omega arith in
+    subst (λ (k : ℕ). v .low ∷ v .high ∷ v .cross ∷ flat ofRow rows ≡ replicate k (pos 0)) e
+    (ap (λ (u : Row). u .low ∷ u .high ∷ u .cross ∷ flat ofRow rows) (h 0) ∙ ap (λ (l : List ℤ). pos 0 ∷ pos 0 ∷ pos 0 ∷ l) (flat-zeros rows (λ i. h (suc i))))
+
+-- past a list's end its default stands, so one more of that changes nothing
+one-more : (l : List Row) (i : ℕ) → getD (l ++ (freshRow ∷ [])) i freshRow ≡ getD l i freshRow
+one-more [] zero = refl
+one-more [] (suc i) = refl
+one-more (v ∷ l) zero = refl
+one-more (v ∷ l) (suc i) = one-more l i
+
+all-fresh : (t : Traverse) (n i : ℕ) → getD (groups (freshRowAt t) n) i freshRow ≡ freshRow
+unfolding groups
+all-fresh t zero i = refl
+all-fresh t (suc n) i = one-more (groups (freshRowAt t) n) i ∙ all-fresh t n i
+
+count-is : (file : TraverseFile) (points : List ℤ) → 2 * file .count ≤ length points → count (traverseIn file points) ≡ file .count
+count-is file points b = ap (λ (k : ℕ). wholes 2 k) (length-take-le (2 * file .count) points b) ∙ wholes-times 2 (file .count) (omega arith)
+
+rows-are : (file : TraverseFile) (points : List ℤ) → 2 ≤ file .count → 2 * file .count ≤ length points → file .count ≤ 65 → take (rowsIn file) noRows ≡ freshRows (traverseIn file points)
+rows-are file points a b c =
+    let t = traverseIn file points in
+    let n = count-is file points b in
+    zeros (rowsIn file) 192 (omega arith)
+    ∙ ap (λ (k : ℕ). replicate (3 * (k - 1)) (pos 0)) (sym n)
+    ∙ ap (λ (k : ℕ). replicate (3 * k) (pos 0)) (sym (groups-length (freshRowAt t) (segments t)))
+    ∙ sym (flat-zeros (groups (freshRowAt t) (segments t)) (all-fresh t (segments t)))
+
+-- ---- what is printed of a listing, behind other bytes
+
+behind : (how : How) (first printed listing : List ℕ) → PrintedOf how printed listing → PrintedOf how (first ++ printed) (first ++ listing)
+behind whole first printed listing p = ap (λ (l : List ℕ). first ++ l) p
+behind read-failed first printed listing p =
+    record {
+      sound = first ++ p .sound;
+      line = ap (λ (l : List ℕ). first ++ l) (p .line) ∙ sym (append-assoc first (p .sound) failedLine);
+      begins = record { rest = p .begins .rest; joined = append-assoc first (p .sound) (p .begins .rest) ∙ ap (λ (l : List ℕ). first ++ l) (p .begins .joined) };
+    }
+behind cut-short first printed listing p = record { rest = p .rest; joined = append-assoc first printed (p .rest) ∙ ap (λ (l : List ℕ). first ++ l) (p .joined) }
+
+-- ---- the listing, from what reading the traverse came to
+
+-- a traverse that was read is no refusal, and a refusal is that one
+tag : Whole → ℕ
+tag whole-read.Read = 0
+tag (whole-read.Refused refusal) = 1
+
+lineOf : Whole → List ℕ
+lineOf whole-read.Read = []
+lineOf (whole-read.Refused refusal) = refusalLine refusal
+
+-- the listing for a traverse
+abbrev opening : List ℕ → Traverse → List ℕ
+opening storm t = afterOpening (openOf mostPoints t .answer) (openOf mostPoints t .state) t (stormOf storm (count t))
+
+module _ (s storm : List ℕ) (points : List ℤ) where
+  numbers : List ℤ
+  numbers = restAt s (held start noPoints) 0 0 .numbers
+
+  listing-read : (file : TraverseFile) → traverseLeft s noPoints ≡ leaves (record { answer = whole-read.Read; head = file .head; count = file .count }) points → listingOf s storm ≡ opening storm (traverseIn file points)
+  unfolding listingOf traverseOf traverseLeft traverseRead tag
+  listing-read file e = go (restAt s (held start noPoints) 0 0 .answer) e
+    where
+      go : (x : Outcome Known) → leaves (traverseRead x) (restAt s (held start noPoints) 0 0 .numbers) ≡ leaves (record { answer = whole-read.Read; head = file .head; count = file .count }) points
+          → afterTraverse (traverseBy x (restAt s (held start noPoints) 0 0 .numbers)) storm ≡ opening storm (traverseIn file points)
+      go (read k at line) p = ap (λ (y : Leaves TraverseRead). opening storm (traverse (y .answer .head) (take (2 * y .answer .count) (y .numbers)))) p
+      go (refused r) p = let z : _≡_ {A = ℕ} 1 0 = ap (λ (y : Leaves TraverseRead). tag (y .answer .answer)) p in absurd (omega arith)
+
+  listing-refused : (r : Refusal) → traverseLeft s noPoints ≡ leaves (record { answer = whole-read.Refused r; head = noHead; count = 0 }) points → listingOf s storm ≡ refusalLine r
+  unfolding listingOf traverseOf traverseLeft traverseRead tag lineOf
+  listing-refused r e = go (restAt s (held start noPoints) 0 0 .answer) e
+    where
+      go : (x : Outcome Known) → leaves (traverseRead x) (restAt s (held start noPoints) 0 0 .numbers) ≡ leaves (record { answer = whole-read.Refused r; head = noHead; count = 0 }) points
+          → afterTraverse (traverseBy x (restAt s (held start noPoints) 0 0 .numbers)) storm ≡ refusalLine r
+      go (read k at line) p = let z : _≡_ {A = ℕ} 0 1 = ap (λ (y : Leaves TraverseRead). tag (y .answer .answer)) p in absurd (omega arith)
+      go (refused q) p = ap (λ (y : Leaves TraverseRead). lineOf (y .answer .answer)) p
+
+-- ---- the last write
+
+-- one line alone
+put-alone : (line out : List ℕ) (waits : ℕ) (out′ : List ℕ) → waits ≡ 0 + length line → out′ ≡ written line 0 out → (n : ℕ) → n ≡ waits → take n out′ ≡ line
+put-alone line out waits out′ w o n e =
+    ap (λ (k : ℕ). take k out′) (e ∙ w) ∙ ap (take (0 + length line)) o ∙ take-written line 0 out (omega arith)
+
+begins-none : (listing : List ℕ) → Begins [] listing
+begins-none listing = record { rest = listing; joined = refl }
+
+-- the listing is one line
+last-line : (r : Flushed) (line out : List ℕ) (waits : ℕ) (out′ listing : List ℕ) → waits ≡ 0 + length line → out′ ≡ written line 0 out → Flushes r waits → listing ≡ line
+    → WroteLast r (cameTo whole) out′ listing
+last-line (flushed.Wrote n) line out waits out′ listing w o f e = put-alone line out waits out′ w o n f ∙ sym e
+last-line flushed.Failed line out waits out′ listing w o f e = begins-none listing
+
+-- reading the traverse failed
+last-failed : (r : Flushed) (out : List ℕ) (waits : ℕ) (out′ listing : List ℕ) → waits ≡ 0 + length failedLine → out′ ≡ written failedLine 0 out → Flushes r waits → WroteLast r (cameTo read-failed) out′ listing
+last-failed (flushed.Wrote n) out waits out′ listing w o f = record { sound = []; line = put-alone failedLine out waits out′ w o n f; begins = begins-none listing }
+last-failed flushed.Failed out waits out′ listing w o f = begins-none listing
+
+-- ---- a traverse that was read
+
+module _ (t : Traverse) (window : List ℕ) (numbers rows : List ℤ) (out : List ℕ) (room : lineRoom ≤ length out) (waits : ℕ) (window′ : List ℕ) (numbers′ rows′ : List ℤ) (out′ : List ℕ)
+    (rows-fresh : rows ≡ freshRows t) (holds : recordSize (count t) ≤ length numbers) (r : Flushed) (flushes : Flushes r waits) where
+  names-are : take (0 + length namesLine) (written namesLine 0 out) ≡ namesLine
+  names-are = take-written namesLine 0 out (omega arith)
+
+  abbrev lines : List ℕ → List ℕ
+  lines storm = stormLines t (openOf mostPoints t .state) (freshRows t) (stormOf storm (count t))
+
+  -- the names line was written, and then the turns came
+  module _ (m : MarchesSome t (begunBy t out room opened .run) 0 window numbers rows (begunBy t out room opened .out) waits window′ numbers′ rows′ out′) (e : List ℕ)
+      (c : Continues (m .marches .standing .last) e) where
+    abbrev last : Memory
+    last = memory (m .marches .standing) window′ numbers′ rows′ out′
+
+    abbrev wrote : List ℕ
+    wrote = wroteOn t (m .marches .earlier) (memory (m .marches .standing) window′ numbers′ rows′ out′)
+
+    abbrev storm : List ℕ
+    storm = textRead t (m .marches .earlier) (memory (m .marches .standing) window′ numbers′ rows′ out′) ++ e
+
+    told : PrintedOf (howMarched t (m .marches .earlier) last) (wrote ++ take (m .marches .standing .used) out′) (lines storm) × Begins wrote (lines storm)
+    told =
+        subst (λ (l : List ℤ). let all = stormLines t (openOf mostPoints t .state) l (stormOf storm (count t)) in PrintedOf (howMarched t (m .marches .earlier) last) (wrote ++ take (m .marches .standing .used) out′) all × Begins wrote all) rows-fresh
+        (turns-tell t (memory (begunAt (m .fd) (begunBy t out room opened .run) 0) window numbers rows (begunBy t out room opened .out)) (record { place = refl; line = refl; none = refl; waits = omega arith; room = holds }) (m .marches .earlier) last (m .marches .reached) e c)
+
+    -- behind the names line
+    marched : (r : Flushed) → Flushes r waits
+        → WroteLast r (cameBy t window numbers rows waits window′ numbers′ rows′ out′ (take (0 + length namesLine) (written namesLine 0 out)) (begunBy t out room opened) m) out′ (namesLine ++ lines storm)
+    marched (flushed.Wrote n) f =
+        subst (λ (p : List ℕ). PrintedOf (howMarched t (m .marches .earlier) last) p (namesLine ++ lines storm))
+        (ap (λ (k : ℕ). namesLine ++ (wrote ++ take k out′)) (sym (f ∙ m .marches .waits-are)) ∙ sym (append-assoc namesLine wrote (take n out′)) ∙ ap (λ (l : List ℕ). (l ++ wrote) ++ take n out′) (sym names-are))
+        (behind (howMarched t (m .marches .earlier) last) namesLine (wrote ++ take (m .marches .standing .used) out′) (lines storm) (told .0))
+    marched flushed.Failed f =
+        subst (λ (l : List ℕ). Begins (l ++ wrote) (namesLine ++ lines storm)) (sym names-are) (behind cut-short namesLine wrote (lines storm) (told .1))
+
+  -- by what opening answered
+  by-opening : (told : ToldOpen) (wrote : Bool) (after : AfterBegin t window numbers rows waits window′ numbers′ rows′ out′ (begunBy t out room told .turn) wrote (begunBy t out room told)) (e : List ℕ)
+      → let c = cameAfter t window numbers rows waits window′ numbers′ rows′ out′ (begunBy t out room told .turn) wrote (begunBy t out room told) after in
+      Continues (c .last) e → WroteLast r c out′ (afterOpening told (openOf mostPoints t .state) t (stormOf (c .text ++ e) (count t)))
+  by-opening opened true after e c = marched after e c r flushes
+  by-opening opened false after e c = unwritten r flushes
+    where
+      unwritten : (r : Flushed) → Flushes r waits → WroteLast r (cameTo cut-short) out′ (namesLine ++ lines e)
+      unwritten (flushed.Wrote n) f = subst (λ (k : ℕ). Begins (take k out′) (namesLine ++ lines e)) (sym (f ∙ after .0)) (begins-none (namesLine ++ lines e))
+      unwritten flushed.Failed f = begins-none (namesLine ++ lines e)
+  by-opening (notOpened number place) wrote after e c = last-line r (refusedLine number place) out waits out′ _ (after .0) (after .1) flushes refl
+
+  pub by-begin : (l : LeftTurn) → l ≡ begunBy t out room (openOf mostPoints t .answer) → (wrote : Bool) (after : AfterBegin t window numbers rows waits window′ numbers′ rows′ out′ (l .turn) wrote l) (e : List ℕ)
+      → let c = cameAfter t window numbers rows waits window′ numbers′ rows′ out′ (l .turn) wrote l after in
+      Continues (c .last) e → WroteLast r c out′ (opening (c .text ++ e) t)
+  by-begin l q =
+      subst (λ (l : LeftTurn). (wrote : Bool) (after : AfterBegin t window numbers rows waits window′ numbers′ rows′ out′ (l .turn) wrote l) (e : List ℕ)
+      → let c = cameAfter t window numbers rows waits window′ numbers′ rows′ out′ (l .turn) wrote l after in
+      Continues (c .last) e → WroteLast r c out′ (opening (c .text ++ e) t))
+      (sym q) (by-opening (openOf mostPoints t .answer))
+
+-- ---- the run
+
+pub run-prints : RunPrints
+run-prints window points numbers rows out r window′ points′ numbers′ rows′ out′ lent x e₁ e₂ c₁ c₂ =
+    by (x .file .answer) (x .after) (file-tells f window points (x .file) (x .window₁) points′ (x .loads .loads) e₁ c₁) (loads-has _ _ _ _ _ _ (x .loads .loads)) c₂
+  where
+    f : ℤ
+    f = x .loads .fd
+
+    s : List ℕ
+    s = files.textRead (x .loads .loads .earlier) (x .loads .loads .at) ++ e₁
+
+    by : (k : Loaded) (after : AfterFile (x .file) points′ (x .window₁) numbers rows out (x .waits) window′ numbers′ rows′ out′ k (x .rows₁)) → Tells k (x .file) s points points′ → HasPoints k (x .file .count) (length points′)
+        → let c = cameFrom (x .file) points′ (x .window₁) numbers rows out (x .waits) window′ numbers′ rows′ out′ k (x .rows₁) after in
+        Continues (c .last) e₂ → WroteLast r c out′ (listingOf s (c .text ++ e₂))
+    by loaded.Failed after told has c = last-failed r out (x .waits) out′ _ (after .0 .waits-are) (after .0 .out-is) (x .flushes)
+    by (loaded.Refused refusal) after told has c =
+        last-line r (refusalLine refusal) out (x .waits) out′ _ (after .0 .waits-are) (after .0 .out-is) (x .flushes) (listing-refused s e₂ points′ refusal (ap (traverseLeft s) (sym (lent .points-fresh)) ∙ told))
+    by loaded.Read after told has c =
+        let t = traverseIn (x .file) points′ in
+        let n = count-is (x .file) points′ (has .1) in
+        subst (WroteLast r _ out′) (sym (listing-read s _ points′ (x .file) (ap (traverseLeft s) (sym (lent .points-fresh)) ∙ told)))
+        (by-begin t (x .window₁) numbers (take (rowsIn (x .file)) rows) out (lent .out-holds) (x .waits) window′ numbers′ (x .rows₁) out′
+        (ap (take (rowsIn (x .file))) (lent .rows-fresh) ∙ rows-are (x .file) points′ (has .0) (has .1) (has .2)) (omega (arith, lent .record-holds, n, has .2)) r (x .flushes)
+        (beginOn t out) (begin-is t out (lent .out-holds)) (after .0 .wrote) (after .0 .after) e₂ c)
