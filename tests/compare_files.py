@@ -8,8 +8,9 @@
 # its current folder. KIND is `read` (model.refread) or `surge` (model.program).
 # First comes the fixed list, then CASES random ones made from SEED; --long adds
 # the long storms. A run that a signal ends, or that lasts too long, fails too.
-# --failing-reads adds a folder in place of each file: that must be told on
-# standard error, and no refusal be printed, which would pass for a whole run.
+# --failing-reads, for `surge`, adds a folder in place of each file: that must be
+# told on standard error, and the last line be `failed`, behind the names line
+# where the traverse was sound.
 # The last line is `N passed, M failed`; the exit status is 0 only where M is 0
 # and, with the fixed list, every refusal number that files can bring about has
 # occurred. (Refusal 8 cannot: the program lends rows that fit. calls.py has it.)
@@ -40,12 +41,15 @@ NUMBERS = {"read": range(1, 6), "surge": [n for n in range(1, 13) if n != 8]}
 
 def bytes_of(thing):
     """What reading finds: None for a file that cannot be opened."""
-    if thing == cases.FOLDER:
-        return b""
     return None if thing in cases.UNOPENED else thing
 
 
 def expected(kind, case):
+    """A folder fails the first read of it: what was printed before, and `failed`."""
+    if case.traverse == cases.FOLDER:
+        return b"failed\n"
+    if case.storm == cases.FOLDER:
+        return b"seconds low high\nfailed\n"
     texts = bytes_of(case.traverse), bytes_of(case.storm)
     if kind == "read":
         return refread.listing(*texts)
@@ -136,11 +140,10 @@ def judge(case, want, done):
     """None, or what is wrong with what the program did."""
     if done.returncode < 0:
         return "ended by signal %d" % -done.returncode
-    if cases.FOLDER in (case.traverse, case.storm):
-        if done.stderr and b"refused" not in done.stdout:
-            return None
-        return "failing read: told %r, got %r" % (done.stderr[:60], done.stdout[:60])
-    if done.stderr:
+    failing = cases.FOLDER in (case.traverse, case.storm)
+    if failing and not done.stderr:
+        return "nothing told of a read that failed"
+    if done.stderr and not failing:
         return "told %r where nothing failed" % done.stderr[:60]
     if done.stdout == want:
         return None

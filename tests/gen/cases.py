@@ -77,7 +77,8 @@ def piped_cases():
 
 
 def failing_reads():
-    """A read that fails is no end of text; how that is told is the product's."""
+    """A read that fails is no end of text: what was printed before it stands,
+    and `failed` is the last line."""
     run = reference_run()
     yield Case("failing read", FOLDER, run.storm_text())
     yield Case("failing read", run.traverse_text(), FOLDER)

@@ -18,7 +18,7 @@ use Rattle.reader.specs.declared.traverse.Known.{Known}
 use Rattle.reader.specs.declared.traverse.Progress.{Progress}
 use Rattle.reader.specs.declared.traverse.Progress.the-variants as progress
 use Rattle.reader.specs.Lines.{Outcome, read, refused, Leaves, leaves, holds}
-use Rattle.reader.specs.Storm.{stormStart, nextLeft, startStep, holdsRecord, recordStepLeft}
+use Rattle.reader.specs.Storm.{stormStart, nextLeft, startStep, holdsRecord, recordStepLeft, longestRecord}
 use Rattle.reader.specs.Traverse.{Held, lineAt, endOf, endStep, endLeft, onStep, moreStep, stepAt, traverseStep}
 use Rattle.reader.proofs.StormLaws.{counts-in}
 use Rattle.reader.proofs.TraverseLaws.{Past, line-on}
@@ -45,7 +45,7 @@ start-asks w last = go (holds (length w) last 0 32) refl
 
 -- at a record, which takes 55 bytes for each of 65 lines at most
 abbrev pub AsksRecord : ℕ → ℕ → RecordStep → Type 0
-AsksRecord size at step.More = size < at + 3575
+AsksRecord size at step.More = size < at + longestRecord
 AsksRecord size at (step.Answer r) = Unit {0}
 
 pub record-asks : (w : List ℕ) (last : Bool) (n at line : ℕ) (lent : List ℤ) → AsksRecord (length w) at (recordStepLeft w last n at line lent .answer)

@@ -1,16 +1,23 @@
--- What a turn of `shift` does, what stands before a part of a slice that was lent, and when a read gave no byte. Assumes nothing.
+-- What a turn of `shift` does, what stands before a part of a slice that was lent, and what a read's answer makes of a window. Assumes nothing.
 use mathlib.Core.Path.{_≡_, refl, sym, _∙_}
 use mathlib.Core.Bool.{Bool, true, false}
 use mathlib.Core.List.{List}
-use Prim.Native.Nat.{ℕ, _+_, _<_, _≤_}
+use Prim.Native.Nat.{ℕ, _+_, _-_, _<_, _≤_}
 use native.Mathlib.Omega.{arith}
-use lib.Dec.{eqb}
+use lib.Dec.{eqb, T}
+use lib.IntN.{ℤ, pos, negsuc, natAbs}
+use lib.Signed.{ltZ, nonNeg}
+use mir.Syntax.{w64}
+use mir.Val.{Fits, SFits}
 use lib.ListN.{length, getD, set, length-set, take, length-append, List·getD-append}
 use lib.Seq.{getD-set-same, getD-set-other, getD-take, length-take-le}
 use borrow.Rule.Slice.PartMut.{putMid}
 use borrow.Author.Count.{below-more}
-use borrow.Author.Tests.{eqb-true, eqb-false, eq-eqb, ne-eqb}
+use borrow.Author.Tests.{eqb-true, eqb-false, eq-eqb, ne-eqb, ltb-true}
 use Rattle.reader.specs.Text.{byte}
+use Rattle.libc.specs.Io.{Moved}
+use Rattle.files.specs.declared.Filled.the-variants.{Holds, Failed}
+use Rattle.files.specs.Filled.{InFront, Refilled, afterRead}
 
 -- the first i bytes are those from at on, and the others are as they were
 pub record Shifted (a b : List ℕ) (at i : ℕ) : Type 0 where
@@ -39,10 +46,34 @@ module _ (n k : ℕ) (xs ys : List ℕ) (h : n ≤ length xs) where
   pub put-front : (j : ℕ) → j < n → byte (putMid n k xs ys) j ≡ byte xs j
   put-front j p = List·getD-append (take n xs) _ 0 j (rw length-take-le p) ∙ getD-take n xs j 0 p
 
+-- ---- what a read answers
+
 -- no byte was read where as many are held as were left
-pub none-read : (m r n : ℕ) → r ≡ n → eqb m 0 ≡ eqb (r + m) n
+none-read : (m r n : ℕ) → r ≡ n → eqb m 0 ≡ eqb (r + m) n
 none-read m r n e = go (eqb m 0) refl
   where
     go : (b : Bool) → eqb m 0 ≡ b → b ≡ eqb (r + m) n
     go true f = sym (eq-eqb (r + m) n (omega (arith, eqb-true m 0 f)))
     go false f = sym (ne-eqb (r + m) n (λ z. eqb-false m 0 f (omega arith)))
+
+-- by its sign: a failure, or a count
+pub read-failed : (z : ℤ) (rest : ℕ) → ltZ z (pos 0) ≡ true → Failed ≡ afterRead z rest
+read-failed (pos n) rest e = absurd (omega (arith, ltb-true n 0 e))
+read-failed (negsuc n) rest e = refl
+
+pub read-held : (z : ℤ) (rest : ℕ) → ltZ z (pos 0) ≡ false → Holds (rest + natAbs z) (eqb (natAbs z) 0) ≡ afterRead z rest
+read-held (pos n) rest e = refl
+read-held (negsuc n) rest e = let y : _≡_ {A = ℕ} 0 1 = cc in absurd (omega arith)
+
+pub read-counts : (z : ℤ) → SFits w64 z → ltZ z (pos 0) ≡ false → T (nonNeg z) × Fits w64 (natAbs z)
+read-counts (pos n) f e = let x = f .sfits in (tt, record { fits = omega arith })
+read-counts (negsuc n) f e = let y : _≡_ {A = ℕ} 0 1 = cc in absurd (omega arith)
+
+-- no more bytes than there was room for
+pub moved-most : (n : ℕ) (z : ℤ) → Moved n z → 0 < n → natAbs z ≤ n
+moved-most n (pos k) m h = m
+moved-most n (negsuc k) m h = omega (arith, m)
+
+pub refilled-by : (z : ℤ) (n : ℕ) → Moved n z → (a b : List ℕ) (at have rest : ℕ) → rest ≡ have - at → rest + n ≤ length b → InFront a b at have → Refilled (afterRead z rest) a b at have
+refilled-by (pos k) n m a b at have rest e l f = record { within = omega (arith, m); least = omega arith; left = f; ended = none-read k rest (have - at) e }
+refilled-by (negsuc k) n m a b at have rest e l f = f

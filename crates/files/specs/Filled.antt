@@ -6,6 +6,7 @@ use mathlib.Core.List.{List}
 use Prim.Native.Nat.{ℕ, _+_, _-_, _<_, _≤_}
 use lib.Dec.{eqb}
 use lib.ListN.{length, take, drop}
+use lib.IntN.{ℤ, pos, negsuc}
 use Rattle.reader.specs.Text.{byte}
 use Rattle.files.specs.declared.Filled.{Filled}
 use Rattle.files.specs.declared.Filled.the-variants.{Holds, Failed}
@@ -28,6 +29,11 @@ pub record Held (a b : List ℕ) (at have n : ℕ) (last : Bool) : Type 0 where
   pub least : have - at ≤ n
   pub left : InFront a b at have
   pub ended : last ≡ eqb n (have - at)
+
+-- what a read's answer, a count of bytes or a negative number, makes of a window of which so many bytes were left
+abbrev pub afterRead : ℤ → ℕ → Filled
+afterRead (pos n) rest = Holds (rest + n) (eqb n 0)
+afterRead (negsuc n) rest = Failed
 
 -- b is the window after, a the one before, of which the bytes from `at` up to `have` were left. They are at its front though the read failed
 abbrev pub Refilled : Filled → List ℕ → List ℕ → ℕ → ℕ → Type 0

@@ -9,11 +9,12 @@ use reader::Progress;
 use records::Head;
 use records::Refusal;
 ghost use mathlib.Core.Path.{_≡_};
-ghost use Prim.Native.Nat.{ℕ, _+_, _-_, _<_, _≤_};
+ghost use Prim.Native.Nat.{ℕ, _+_, _-_, _<_, _≤_, _^_};
+ghost use lib.IntN.{natAbs};
 ghost use lib.ListN.{length};
 ghost use Rattle.reader.specs.Text.{byte};
 ghost use Rattle.libc.specs.Io.{Moved};
-ghost use Rattle.files.specs.Filled.{Refills, Refilled, Flushes};
+ghost use Rattle.files.specs.Filled.{Refills, afterRead, Refilled, Flushes};
 ghost use Rattle.files.specs.TraverseFile.{fileOf, Loads, LoadsSome};
 
 // ---- windows
@@ -56,6 +57,18 @@ fn read_through(fd: i32, buf: &mut [u8]) -> isize
     -1
 }
 
+// How a window stands after a read that answered so, where `rest` bytes were left of it: a read of no bytes is the file's end.
+fn after_read(got: isize, rest: usize) -> Filled
+    requires { ⌜ rest + natAbs got < 2 ^ 64 ⌝ }
+    ensures { λ r. ⌜ r ≡ afterRead got rest ⌝ }
+{
+    if got < 0 {
+        return Filled::Failed;
+    }
+    let more = got as usize;
+    Filled::Holds(rest + more, more == 0)
+}
+
 // The window again: what was left of it at its front, and more of the file behind that. What was left is less than the window, so that the
 // read asks for one byte or more, and a read of no bytes is the file's end.
 pub fn refill(fd: i32, buf: &mut [u8], at: usize, have: usize) -> Filled
@@ -64,11 +77,7 @@ pub fn refill(fd: i32, buf: &mut [u8], at: usize, have: usize) -> Filled
 {
     let rest = shift(buf, at, have);
     let got = read_through(fd, &mut buf[rest..]);
-    if got < 0 {
-        return Filled::Failed;
-    }
-    let more = io::count(got, &buf[rest..]);
-    Filled::Holds(rest + more, more == 0)
+    after_read(got, rest)
 }
 
 // ---- the traverse

@@ -12,7 +12,7 @@ use Rattle.records.specs.Shapes.{Traverse, count}
 use Rattle.listing.specs.Lines.{namesLine}
 use Rattle.reader.specs.declared.traverse.Known.{Known}
 use Rattle.reader.specs.Lines.{Outcome, read, refused, holds}
-use Rattle.reader.specs.Storm.{stormOf}
+use Rattle.reader.specs.Storm.{stormOf, longestRecord}
 use Rattle.reader.specs.Traverse.{held, start, noPoints, restAt, traverseRead, traverseLeft, traverseBy, traverseOf}
 use Rattle.reader.specs.Window.{Cut, fromOf, windowOf, lastOf, enough, TraverseRun, done, going, traverseRun, traverseDone}
 use Rattle.reader.proofs.Window.{shows-cut}
@@ -57,13 +57,13 @@ module _ (s : List ℕ) (t : Traverse) where
   abbrev From : List Cut → Type 0
   From cuts =
       (at line k : ℕ) (st : State) (rows : List ℤ) → at ≤ length s → (line ≡ 0 → (at ≡ 0) × (k ≡ 0)) → k ≤ 1 →
-      Drives (length s + 1 < at + k + enough 3575 cuts) (driveFrom s t cuts at line st rows) (linesFrom s t at line st rows)
+      Drives (length s + 1 < at + k + enough longestRecord cuts) (driveFrom s t cuts at line st rows) (linesFrom s t at line st rows)
 
   from-place : (cuts : List Cut) → From cuts
   unfolding driveFrom
-  from-place [] at line k st rows h z i = unsaid (linesFrom s t at line st rows) (λ (f : length s + 1 < at + k + enough 3575 []). unfold enough in omega arith)
+  from-place [] at line k st rows h z i = unsaid (linesFrom s t at line st rows) (λ (f : length s + 1 < at + k + enough longestRecord []). unfold enough in omega arith)
   from-place (c ∷ cuts) at line k st rows h z i =
-      subst (Drives (length s + 1 < at + k + enough 3575 (c ∷ cuts)) (driveOn (turnOf t w last (at - o) line st rows) o at line st rows (driveFrom s t cuts)))
+      subst (Drives (length s + 1 < at + k + enough longestRecord (c ∷ cuts)) (driveOn (turnOf t w last (at - o) line st rows) o at line st rows (driveFrom s t cuts)))
       (turn-at s w t o last (shows-cut s c at h) (at - o) line st rows (omega arith) (λ e. omega (arith, z e)) ∙ ap (λ (a : ℕ). linesFrom s t a line st rows) (back s c at h))
       (go (turnOf t w last (at - o) line st rows) (turn-moves w last t (at - o) line st rows) (from-place cuts))
     where
@@ -79,14 +79,14 @@ module _ (s : List ℕ) (t : Traverse) where
       inside : o + length w ≤ length s
       inside = shows-cut s c at h .within
 
-      most : enough 3575 (c ∷ cuts) ≤ suc (enough 3575 cuts)
-      most = enough-most 3575 c cuts
+      most : enough longestRecord (c ∷ cuts) ≤ suc (enough longestRecord cuts)
+      most = enough-most longestRecord c cuts
 
       go : (x : Said) → Moves (length w) last (at - o) line x → From cuts →
-          Drives (length s + 1 < at + k + enough 3575 (c ∷ cuts)) (driveOn x o at line st rows (driveFrom s t cuts)) (saidThen s t o (at - o) line st rows x)
+          Drives (length s + 1 < at + k + enough longestRecord (c ∷ cuts)) (driveOn x o at line st rows (driveFrom s t cuts)) (saidThen s t o (at - o) line st rows x)
       go more m ih =
           rw (back s c at h)
-          (on-more (λ f. omega (arith, not-counted 3575 c cuts (holds (length w) last (at - o) 3575) (cut-holds s c at h 3575) m)) (ih at line k st rows h z i))
+          (on-more (λ f. omega (arith, not-counted longestRecord c cuts (holds (length w) last (at - o) longestRecord) (cut-holds s c at h longestRecord) m)) (ih at line k st rows h z i))
       go (reads a l) m ih =
           on-more (λ f. omega (arith, most, z (m .0))) (ih (o + a) l 1 st rows (omega (arith, inside)) (λ e. absurd (omega arith)) (omega arith))
       go (says bytes a l st′ rows′) m ih =
@@ -94,7 +94,7 @@ module _ (s : List ℕ) (t : Traverse) where
       go (ends bytes) m ih = all-said bytes
       go quiet m ih = all-said []
 
-  storm-tells : (cuts : List Cut) (st : State) (rows : List ℤ) → Drives (length s + 1 < enough 3575 cuts) (driveFrom s t cuts 0 0 st rows) (stormLines t st rows (stormOf s (count t)))
+  storm-tells : (cuts : List Cut) (st : State) (rows : List ℤ) → Drives (length s + 1 < enough longestRecord cuts) (driveFrom s t cuts 0 0 st rows) (stormLines t st rows (stormOf s (count t)))
   storm-tells cuts st rows = on-more (λ f. omega arith) (from-place cuts 0 0 0 st rows (omega arith) (λ e. (refl, refl)) (omega arith))
 
 pub storm-begins : StormBegins
@@ -110,24 +110,24 @@ storm-ends s t cuts st rows f = storm-tells s t cuts st rows .over f
 
 module _ (s : List ℕ) (cuts : List Cut) where
   by-opening : (t : Traverse) (told : ToldOpen) (st : State) →
-      Drives (length s + 1 < enough 3575 cuts) (afterOpened (saidOpen told st (freshRows t)) t s cuts) (afterOpening told st t (stormOf s (count t)))
+      Drives (length s + 1 < enough longestRecord cuts) (afterOpened (saidOpen told st (freshRows t)) t s cuts) (afterOpening told st t (stormOf s (count t)))
   by-opening t opened st = said-before namesLine (storm-tells s t cuts st (freshRows t))
   by-opening t (notOpened number place) st = all-said _
 
   by-traverse : (x : Outcome Known) (points : List ℤ) →
-      Drives (length s + 1 < enough 3575 cuts) (afterWhole (traverseRead x .answer) (readTraverse (traverseRead x) points) s cuts) (afterTraverse (traverseBy x points) s)
+      Drives (length s + 1 < enough longestRecord cuts) (afterWhole (traverseRead x .answer) (readTraverse (traverseRead x) points) s cuts) (afterTraverse (traverseBy x points) s)
   unfolding traverseRead beginOf
   by-traverse (read k at line) points =
       let t = readTraverse (traverseRead (read k at line)) points in
       by-opening t (openOf mostPoints t .answer) (openOf mostPoints t .state)
   by-traverse (refused q) points = all-said _
 
-  listing-tells : (tt : List ℕ) (cutsT : List Cut) → Drives ((length tt < enough 33 cutsT) × (length s + 1 < enough 3575 cuts)) (driveAll tt cutsT s cuts) (listingOf tt s)
+  listing-tells : (tt : List ℕ) (cutsT : List Cut) → Drives ((length tt < enough 33 cutsT) × (length s + 1 < enough longestRecord cuts)) (driveAll tt cutsT s cuts) (listingOf tt s)
   unfolding driveAll listingOf traverseLeft traverseOf
   listing-tells tt cutsT = go (traverseRun tt cutsT (held start noPoints) 0 0) (traverse-by-windows tt cutsT noPoints) (traverse-finishes tt cutsT noPoints)
     where
       go : (r : TraverseRun) → traverseDone tt r ≡ traverseLeft tt noPoints → (length tt < enough 33 cutsT → r ≡ done (traverseLeft tt noPoints)) →
-          Drives ((length tt < enough 33 cutsT) × (length s + 1 < enough 3575 cuts)) (afterRun r s cuts) (listingOf tt s)
+          Drives ((length tt < enough 33 cutsT) × (length s + 1 < enough longestRecord cuts)) (afterRun r s cuts) (listingOf tt s)
       go (done x) e f = rw e (on-more (λ c. c .1) (by-traverse (restAt tt (held start noPoints) 0 0 .answer) (restAt tt (held start noPoints) 0 0 .numbers)))
       go (going h at line) e f = unsaid (listingOf tt s) (λ c. let z : _≡_ {A = ℕ} 0 1 = cc (f (c .0)) in omega arith)
 

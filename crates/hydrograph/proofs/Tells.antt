@@ -19,7 +19,7 @@ use Rattle.reader.specs.declared.Lines.the-variants.{Read, Refused}
 use Rattle.reader.specs.declared.storm.StartStep.the-variants as start-step
 use Rattle.reader.specs.Text.{more}
 use Rattle.reader.specs.Lines.{Outcome, read, refused, found, Line, full, bad, valuesAt, linesRead, after, linesAt, namesAt, spells, holds}
-use Rattle.reader.specs.Storm.{recordOf, recordLines, Further, one, none, nextAt, stormNames, stormStart, stormBy, stormRest, stormFrom, stormOf, startStep, holdsRecord, seen, needs-more, recordStep}
+use Rattle.reader.specs.Storm.{recordOf, recordLines, Further, one, none, nextAt, stormNames, stormStart, stormBy, stormRest, stormFrom, stormOf, startStep, holdsRecord, seen, needs-more, recordStep, longestRecord}
 use Rattle.reader.specs.Window.{Shows, moved}
 use Rattle.reader.proofs.StormLaws.{counts-in}
 use Rattle.reader.proofs.Ends.{Stays, start-stays, Read-on, next-on}
@@ -143,7 +143,7 @@ turn-tells s w t o last sh at line st rows h z = turn-at s w t o last sh at line
 
 -- more is asked for only where the window is not the last and ends within the 3,575 bytes that a record of 65 points can take; a record moves the place on
 abbrev pub Moves : ℕ → Bool → ℕ → ℕ → Said → Type 0
-Moves size last at line Said.more = holds size last at 3575 ≡ false
+Moves size last at line Said.more = holds size last at longestRecord ≡ false
 Moves size last at line (reads a l) = (line ≡ 0) × ((0 < l) × (a ≤ size))
 Moves size last at line (says bytes a l st rows) = (0 < line) × ((0 < l) × ((at < a) × (a ≤ size)))
 Moves size last at line (ends bytes) = Unit {0}
@@ -179,7 +179,7 @@ module _ (w : List ℕ) (last : Bool) (at : ℕ) where
     where
       go : (b : Bool) → holds (length w) last 0 32 ≡ b → Moves (length w) last at 0 (saidStart (cond b (start-step.Answer (stormStart w)) start-step.More))
       go true e = start-on (stormStart w) (start-counted w) (start-stays w)
-      go false e = holds-fewer (length w) last 0 32 at 3575 (omega arith) e
+      go false e = holds-fewer (length w) last 0 32 at longestRecord (omega arith) e
 
   module _ (t : Traverse) (line : ℕ) (st : State) (rows : List ℤ) (l : 0 < line) where
     taken-on : (told : Told) (a k : ℕ) (st′ : State) (rows′ : List ℤ) → 0 < k → at < a → a ≤ length w → Moves (length w) last at line (saidTaken told a k st′ rows′)
@@ -191,12 +191,12 @@ module _ (w : List ℕ) (last : Bool) (at : ℕ) where
     record-on (read none a k) c h = tt
     record-on (refused q) c h = tt
 
-    record-short : holdsRecord (length w) last (count t) at ≡ false → holds (length w) last at 3575 ≡ false
+    record-short : holdsRecord (length w) last (count t) at ≡ false → holds (length w) last at longestRecord ≡ false
     unfolding holdsRecord
     record-short e = go (countOk mostPoints (count t)) (counts-in mostPoints (count t)) e
       where
-        go : (b : Bool) → (b ≡ true → (2 ≤ count t) × (count t ≤ 65)) → cond b (holds (length w) last at (count t * 55)) true ≡ false → holds (length w) last at 3575 ≡ false
-        go true f e = let k = f refl in holds-fewer (length w) last at (count t * 55) at 3575 (omega arith) e
+        go : (b : Bool) → (b ≡ true → (2 ≤ count t) × (count t ≤ 65)) → cond b (holds (length w) last at (count t * 55)) true ≡ false → holds (length w) last at longestRecord ≡ false
+        go true f e = let k = f refl in holds-fewer (length w) last at (count t * 55) at longestRecord (omega arith) e
         go false f e = let z : _≡_ {A = ℕ} 0 1 = cc in absurd (omega arith)
 
     record-moves : Moves (length w) last at line (recordTurn t w last at line st rows)

@@ -17,7 +17,7 @@ use Rattle.reader.specs.declared.storm.RecordStep.the-variants as step
 use Rattle.reader.specs.declared.storm.StartStep.{StartStep}
 use Rattle.reader.specs.declared.storm.StartStep.the-variants as start-step
 use Rattle.reader.specs.Lines.{Leaves, read, refused}
-use Rattle.reader.specs.Storm.{Seen, needs-more, seen, one, none, recordIn, stormRest, stormOf, startStep, recordStep, recordStepLeft}
+use Rattle.reader.specs.Storm.{Seen, needs-more, seen, one, none, recordIn, stormRest, stormOf, startStep, recordStep, recordStepLeft, longestRecord}
 use Rattle.reader.specs.declared.traverse.Whole.{Whole}
 use Rattle.reader.specs.declared.traverse.Whole.the-variants as whole
 use Rattle.reader.specs.declared.traverse.TraverseRead.{TraverseRead}
@@ -244,7 +244,7 @@ StormDriven =
 -- which it is where enough of the windows show a record, of 3,575 bytes at most, or the end and that it is the end
 abbrev pub StormEnds : Type 0
 StormEnds =
-    (s : List ℕ) (t : Traverse) (cuts : List Cut) (st : State) (rows : List ℤ) → length s + 1 < enough 3575 cuts →
+    (s : List ℕ) (t : Traverse) (cuts : List Cut) (st : State) (rows : List ℤ) → length s + 1 < enough longestRecord cuts →
     driveFrom s t cuts 0 0 st rows .finished ≡ true
 
 -- the same of both files and the listing
@@ -258,11 +258,11 @@ ListingDriven =
 
 abbrev pub ListingEnds : Type 0
 ListingEnds =
-    (tt : List ℕ) (cutsT : List Cut) (s : List ℕ) (cuts : List Cut) → length tt < enough 33 cutsT → length s + 1 < enough 3575 cuts →
+    (tt : List ℕ) (cutsT : List Cut) (s : List ℕ) (cuts : List Cut) → length tt < enough 33 cutsT → length s + 1 < enough longestRecord cuts →
     driveAll tt cutsT s cuts .finished ≡ true
 
 -- so enough such windows print just the listing
 abbrev pub ListingWhole : Type 0
 ListingWhole =
-    (tt : List ℕ) (cutsT : List Cut) (s : List ℕ) (cuts : List Cut) → length tt < enough 33 cutsT → length s + 1 < enough 3575 cuts →
+    (tt : List ℕ) (cutsT : List Cut) (s : List ℕ) (cuts : List Cut) → length tt < enough 33 cutsT → length s + 1 < enough longestRecord cuts →
     driveAll tt cutsT s cuts ≡ record { bytes = listingOf tt s; finished = true }

@@ -20,7 +20,7 @@ ghost use mathlib.Core.Path.{_≡_};
 ghost use Prim.Native.Nat.{_-_, _*_, _<_, _≤_};
 ghost use lib.ListN.{length};
 ghost use lib.IntN.{natAbs};
-ghost use Rattle.reader.specs.Storm.{recordSize};
+ghost use Rattle.reader.specs.Storm.{recordSize, longestRecord};
 ghost use Rattle.read_files.specs.Standing.{Stands, Lent};
 
 // ---- printing, by blocks of the lent buffer, of which `used` bytes wait
@@ -244,7 +244,7 @@ fn refilled(fd: i32, buf: &mut [u8], x: Reading) -> Reading
 
 // The names line, or more of the file.
 fn start_turn(fd: i32, buf: &mut [u8], x: Reading, out: &mut [u8]) -> Reading
-    requires { ⌜ Stands x (length (now buf)) (length (now out)) × ((0 < length (now out)) × (3575 ≤ length (now buf))) ⌝ }
+    requires { ⌜ Stands x (length (now buf)) (length (now out)) × ((0 < length (now out)) × (longestRecord ≤ length (now buf))) ⌝ }
     ensures { λ r. ⌜ Stands r (length (now (buf .exit))) (length (now (out .exit))) ⌝ }
 {
     let old = x.c;
@@ -279,7 +279,7 @@ fn record_turn(
     numbers: &mut [i64],
     out: &mut [u8],
 ) -> Reading
-    requires { ⌜ (recordSize n ≤ length (now numbers)) × (Stands x (length (now buf)) (length (now out)) × ((0 < length (now out)) × (3575 ≤ length (now buf)))) ⌝ }
+    requires { ⌜ (recordSize n ≤ length (now numbers)) × (Stands x (length (now buf)) (length (now out)) × ((0 < length (now out)) × (longestRecord ≤ length (now buf)))) ⌝ }
     ensures { λ r. ⌜ Stands r (length (now (buf .exit))) (length (now (out .exit))) ⌝ }
 {
     let c = x.c;
@@ -321,7 +321,7 @@ fn turn(
     numbers: &mut [i64],
     out: &mut [u8],
 ) -> Reading
-    requires { ⌜ (recordSize n ≤ length (now numbers)) × (Stands x (length (now buf)) (length (now out)) × ((0 < length (now out)) × (3575 ≤ length (now buf)))) ⌝ }
+    requires { ⌜ (recordSize n ≤ length (now numbers)) × (Stands x (length (now buf)) (length (now out)) × ((0 < length (now out)) × (longestRecord ≤ length (now buf)))) ⌝ }
     ensures { λ r. ⌜ Stands r (length (now (buf .exit))) (length (now (out .exit))) ⌝ }
 {
     let c = x.c;
@@ -340,7 +340,7 @@ fn print_storm(
     out: &mut [u8],
     used: usize,
 ) -> usize
-    requires { ⌜ (recordSize n ≤ length (now numbers)) × ((used ≤ length (now out)) × ((0 < length (now out)) × (3575 ≤ length (now buf)))) ⌝ }
+    requires { ⌜ (recordSize n ≤ length (now numbers)) × ((used ≤ length (now out)) × ((0 < length (now out)) × (longestRecord ≤ length (now buf)))) ⌝ }
     ensures { λ r. ⌜ r ≤ length (now (out .exit)) ⌝ }
 {
     let mut turns: u64 = 0x100_0000_0000_0000;
@@ -372,7 +372,7 @@ fn print_run(
     numbers: &mut [i64],
     out: &mut [u8],
 ) -> usize
-    requires { ⌜ (2 * n ≤ length (now points)) × ((recordSize n ≤ length (now numbers)) × ((0 < length (now out)) × (3575 ≤ length (now buf)))) ⌝ }
+    requires { ⌜ (2 * n ≤ length (now points)) × ((recordSize n ≤ length (now numbers)) × ((0 < length (now out)) × (longestRecord ≤ length (now buf)))) ⌝ }
     ensures { λ r. ⌜ r ≤ length (now (out .exit)) ⌝ }
 {
     let a = put_traverse(out, 0, head, n);

@@ -132,6 +132,10 @@ stormOf s n = stormFrom (stormStart s) (stormRest s n)
 unfoldable pub startStep : List ℕ → Bool → StartStep
 startStep w last = cond (holds (length w) last 0 32) (start.Answer (stormStart w)) start.More
 
+-- the bytes of the longest record, of 65 lines
+abbrev pub longestRecord : ℕ
+longestRecord = 3575
+
 -- whether a window of so many bytes is enough for the next record: 55 bytes for each line, eleven for each value
 unfoldable pub holdsRecord : ℕ → Bool → ℕ → ℕ → Bool
 holdsRecord size last n at = cond (countOk mostPoints n) (holds size last at (n * 55)) true

@@ -15,7 +15,7 @@ use Rattle.listing.specs.declared.Put.the-variants.{Next}
 use Rattle.listing.specs.Lines.{failedLine}
 use Rattle.listing.specs.Put.{afterPut, putOf, written}
 use Rattle.listing.proofs.Answer.{next-told}
-use Rattle.reader.specs.Storm.{recordSize}
+use Rattle.reader.specs.Storm.{recordSize, longestRecord}
 use Rattle.files.proofs.Asks.{holds-not}
 use Rattle.hydrograph.specs.declared.Turn.{Turn}
 use Rattle.hydrograph.specs.declared.Turn.the-variants as turn
@@ -37,7 +37,7 @@ puts-next line used out k out′ e = let h = next-told line used out k out′ e 
 -- the place of a turn, in a buffer of so many bytes. Where it asks for more, the window has fewer than 3,575 bytes from the cursor on, and there is
 -- room for a line; where there is none, something waits
 abbrev pub Placed : ℕ → ℕ → ℕ → ℕ → Turn → Type 0
-Placed size room at used turn.More = (size < at + 3575) × (used + lineRoom ≤ room)
+Placed size room at used turn.More = (size < at + longestRecord) × (used + lineRoom ≤ room)
 Placed size room at used (turn.Line k) = k ≤ room
 Placed size room at used (turn.End k) = k ≤ room
 Placed size room at used turn.Full = 0 < used
@@ -56,7 +56,7 @@ written-within bytes used out h e =
 module _ (size used : ℕ) (last : Bool) (run : Run) (numbers rows : List ℤ) (out : List ℕ) (h : run .cursor .at ≤ size) (u : used ≤ length out) where
   printed-ends : (numbers′ : List ℤ) (x : Said) → tells.Moves size last (run .cursor .at) (run .cursor .line) x → used + lineRoom ≤ length out → length (printed x run numbers′ rows out used .out) ≡ length out →
       Ends size (length out) used (printed x run numbers′ rows out used)
-  printed-ends numbers′ more w l e = record { cursor = h; place = (holds-not size last (run .cursor .at) 3575 w .0, l) }
+  printed-ends numbers′ more w l e = record { cursor = h; place = (holds-not size last (run .cursor .at) longestRecord w .0, l) }
   printed-ends numbers′ (reads a k) w l e = record { cursor = w .1 .1; place = u }
   printed-ends numbers′ (says bytes a k st rows′) w l e = record { cursor = w .1 .1 .1; place = written-within bytes used out u e }
   printed-ends numbers′ (ends bytes) w l e = record { cursor = h; place = written-within bytes used out u e }

@@ -12,7 +12,7 @@ use lib.IntN.{ℤ}
 use Rattle.records.specs.Shapes.{Traverse, count}
 use Rattle.listing.specs.Lines.{failedLine}
 use Rattle.listing.specs.Put.{written}
-use Rattle.reader.specs.Storm.{recordSize}
+use Rattle.reader.specs.Storm.{recordSize, longestRecord}
 use Rattle.reader.proofs.LentLaws.{step-spares}
 use Rattle.files.specs.Filled.{readBehind}
 use Rattle.files.specs.TraverseFile.{Continues}
@@ -239,7 +239,7 @@ module _ (t : Traverse) (a w : Memory) (s f : List ℕ) (h : Told t a w s f) whe
   -- something was said, or the text has ended
   by-said : (z : Said) → said t a (w .standing) (w .window) (w .numbers) (w .rows) (w .out) s f h ≡ z → tells.Moves (w .standing .have) (w .standing .last) (w .standing .run .cursor .at) (w .standing .run .cursor .line) z
       → (b : Memory) → b .numbers ≡ answer z .numbers → b .rows ≡ answer z .rows → Moves (answer z .turn) (answer z) w b → Went t a w s f (answer z) b
-  by-said more e k b n r m = by-more e (holds-not (w .standing .have) (w .standing .last) (w .standing .run .cursor .at) 3575 k .1) b n r m
+  by-said more e k b n r m = by-more e (holds-not (w .standing .have) (w .standing .last) (w .standing .run .cursor .at) longestRecord k .1) b n r m
   by-said (reads at line) e k b n r m =
       waited t a w s f _ _ (answer (reads at line)) b m n r
       (plain (subst (λ (u : ℕ). Told t a (memory (standingWith (w .standing) (record { cursor = record { at = at; line = line }; state = w .standing .run .state }) u true) (w .window) (heard .numbers) (w .rows) (w .out)) s f) nought

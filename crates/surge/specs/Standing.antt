@@ -9,7 +9,7 @@ use Rattle.records.specs.Shapes.{Traverse, count}
 use Rattle.listing.specs.Lines.{failedLine}
 use Rattle.listing.specs.Put.{written}
 use Rattle.reader.specs.Traverse.{noPoints}
-use Rattle.reader.specs.Storm.{recordSize}
+use Rattle.reader.specs.Storm.{recordSize, longestRecord}
 use Rattle.files.specs.Filled.{InFront, Held}
 use Rattle.hydrograph.specs.declared.Run.{Run}
 use Rattle.hydrograph.specs.declared.Turn.{Turn}
@@ -25,7 +25,7 @@ noRows = replicate 192 (pos 0)
 
 -- a window that holds the longest record, fresh points and rows, room for a record of 65 points, and for a line
 pub record Lent (window : ℕ) (points numbers rows : List ℤ) (out : ℕ) : Type 0 where
-  pub window-holds : 3575 ≤ window
+  pub window-holds : longestRecord ≤ window
   pub points-fresh : points ≡ noPoints
   pub record-holds : 197 ≤ length numbers
   pub rows-fresh : rows ≡ noRows
@@ -51,7 +51,7 @@ pub record Stands (x : Standing) (window room : ℕ) : Type 0 where
 pub record Starts (run : Run) (used : ℕ) (window : List ℕ) (t : Traverse) (numbers : List ℤ) (out : List ℕ) : Type 0 where
   pub place : run .cursor .at ≤ 0
   pub waits : used ≤ length out
-  pub window-holds : 3575 ≤ length window
+  pub window-holds : longestRecord ≤ length window
   pub out-holds : lineRoom ≤ length out
   pub record-holds : recordSize (count t) ≤ length numbers
 

@@ -18,7 +18,7 @@ ghost use Prim.Native.Nat.{_+_, _≤_};
 ghost use lib.ListN.{length};
 ghost use Rattle.records.specs.Shapes.{traverse, count};
 ghost use Rattle.listing.specs.Lines.{failedLine};
-ghost use Rattle.reader.specs.Storm.{recordSize};
+ghost use Rattle.reader.specs.Storm.{recordSize, longestRecord};
 ghost use Rattle.hydrograph.specs.Listing.{refusalLine};
 ghost use Rattle.hydrograph.specs.Turns.{lineRoom};
 ghost use Rattle.files.specs.Filled.{Refills};
@@ -134,7 +134,7 @@ fn turn(
     rows: &mut [i64],
     out: &mut [u8],
 ) -> Standing
-    requires { ⌜ Stands x (length (now buf)) (length (now out)) × ((3575 ≤ length (now buf)) × ((lineRoom ≤ length (now out)) × (recordSize (count (traverse head (now points))) ≤ length (now numbers)))) ⌝ }
+    requires { ⌜ Stands x (length (now buf)) (length (now out)) × ((longestRecord ≤ length (now buf)) × ((lineRoom ≤ length (now out)) × (recordSize (count (traverse head (now points))) ≤ length (now numbers)))) ⌝ }
     ensures { λ r. ⌜ Stands r (length (now (buf .exit))) (length (now (out .exit))) × Moved (traverse head (now (points .entry))) (memory x (now (buf .entry)) (now (numbers .entry)) (now (rows .entry)) (now (out .entry))) (memory r (now (buf .exit)) (now (numbers .exit)) (now (rows .exit)) (now (out .exit))) ⌝ }
 {
     let have = x.have;
@@ -225,7 +225,7 @@ fn print_run(
     rows: &mut [i64],
     out: &mut [u8],
 ) -> usize
-    requires { ⌜ (3575 ≤ length (now buf)) × ((lineRoom ≤ length (now out)) × (recordSize (count (traverse head (now points))) ≤ length (now numbers))) ⌝ }
+    requires { ⌜ (longestRecord ≤ length (now buf)) × ((lineRoom ≤ length (now out)) × (recordSize (count (traverse head (now points))) ≤ length (now numbers))) ⌝ }
     ensures { λ r. ⌜ (r ≤ length (now (out .exit))) × Prints (traverse head (now (points .entry))) (now (buf .entry)) (now (numbers .entry)) (now (rows .entry)) (now (out .entry)) r (now (buf .exit)) (now (numbers .exit)) (now (rows .exit)) (now (out .exit)) ⌝ }
 {
     let begun = hydrograph::begin(head, points, out, 0);

@@ -3,8 +3,10 @@ use native.Mathlib.Omega.{arith}
 use mathlib.Core.Path.{_∙_}
 use Prim.Native.Nat.{_-_, _≤_}
 use lib.ListN.{length}
-use Rattle.files.proofs.Laws.{put-long, put-front, none-read}
-use borrow.Author.Needs.{needs}
+use Rattle.files.proofs.Laws.{put-long, put-front, moved-most, refilled-by}
+use mir.Syntax.{w64}
+use mir.ValLaws.{toZ-ofZ}
+use borrow.Author.Needs.{needs, sfits-of}
 use Rattle.files.proofs.refill.Statement.{statement}
 use Rattle.files.proofs.refill.Tie as tie
 
@@ -23,44 +25,25 @@ part-read-through-end c = search needs
 read-through-requires : tie.Need-read-through-requires
 read-through-requires c κs = search needs
 
+after-read-requires : tie.Need-after-read-requires
+after-read-requires c κs =
+    let s = c .before .before .before .before .before .before .shift in
+    let r = c .before .before .read-through in
+    let m = moved-most _ (r .result) (r .ensures) (omega arith) in
+    rw (toZ-ofZ w64 _ (sfits-of (r .ok))) (omega (arith, m, s .ensures .0))
+
 same-length : tie.Need-same-length
 same-length c = search needs
 
 returns : tie.Need-returns
 returns c =
     let s = c .before .before .before .before .before .before .before .shift in
+    let r = c .before .before .before .read-through in
     let f : s .result ≤ length (s .last .0) = omega (arith, s .kept .0, s .ensures .0) in
-    λ j h. put-front (s .result) (length (s .last .0) - s .result) (s .last .0) (c .before .before .before .read-through .last .1 .0) f j (omega (arith, s .ensures .0)) ∙ s .ensures .1 j (omega (arith, s .ensures .0))
-
-sub-count : tie.Need-sub-count
-sub-count c = search needs
-
-part-count-start : tie.Need-part-count-start
-part-count-start c = search needs
-
-part-count-end : tie.Need-part-count-end
-part-count-end c = search needs
-
-count-requires : tie.Need-count-requires
-count-requires c κs = search needs
-
-add-t11 : tie.Need-add-t11
-add-t11 c = search needs
-
-same-length-2 : tie.Need-same-length-2
-same-length-2 c = search needs
-
-returns-2 : tie.Need-returns-2
-returns-2 c =
-    let s = c .before .before .before .before .before .before .before .before .before .before .shift in
-    let r = c .before .before .before .before .before .before .read-through in
-    let f : s .result ≤ length (s .last .0) = omega (arith, s .kept .0, s .ensures .0) in
-    record {
-      within = omega (arith, put-long (s .result) (length (s .last .0) - s .result) (s .last .0) (r .last .1 .0) f, c .count .ensures .0 .0);
-      least = omega (arith, s .ensures .0);
-      left = λ j h. put-front (s .result) (length (s .last .0) - s .result) (s .last .0) (r .last .1 .0) f j (omega (arith, s .ensures .0)) ∙ s .ensures .1 j (omega (arith, s .ensures .0));
-      ended = none-read (c .count .result) (s .result) _ (s .ensures .0);
-    }
+    rw (c .after-read .ensures, toZ-ofZ w64 _ (sfits-of (r .ok)))
+    (refilled-by (r .result) _ (r .ensures) _ _ _ _ (s .result) (s .ensures .0)
+    (omega (arith, put-long (s .result) (length (s .last .0) - s .result) (s .last .0) (r .last .1 .0) f, r .kept .1 .0))
+    (λ j h. put-front (s .result) (length (s .last .0) - s .result) (s .last .0) (r .last .1 .0) f j (omega (arith, s .ensures .0)) ∙ s .ensures .1 j (omega (arith, s .ensures .0))))
 
 pub refill-spec : {M : Type 1} → statement M
 refill-spec =
@@ -71,12 +54,6 @@ refill-spec =
     part-read-through-start
     part-read-through-end
     read-through-requires
+    after-read-requires
     same-length
-    returns
-    sub-count
-    part-count-start
-    part-count-end
-    count-requires
-    add-t11
-    same-length-2
-    returns-2)
+    returns)
