@@ -4,3 +4,4 @@ pub mod Ending
 pub mod Laws
 pub mod PointsRead
 pub mod Reached
+pub mod Walked

@@ -22,24 +22,17 @@ use Rattle.files.specs.declared.Filled.the-variants.{Holds}
 use Rattle.files.specs.declared.Loaded.{Loaded}
 use Rattle.files.specs.declared.Loaded.the-variants.{Read, Refused, Failed}
 use Rattle.files.specs.declared.TraverseFile.{TraverseFile}
+use Rattle.files.specs.Chain.{Chain, mostTurns}
 use Rattle.files.specs.Filled.{Refilled, readBehind}
 use Rattle.files.specs.TraverseFile.{fileOf, loadedBy, fileBy, Reading, begun, stepOf, askedAt, leftFrom, Follows, Reached, textRead, KeptWindow, Loads, Continues, Tells, FileTells}
+use Rattle.files.proofs.Walked.{never, Walked, walked-more}
 use Rattle.files.proofs.Asks.{Asks, traverse-asks}
 use Rattle.files.proofs.Ending.{Ending, ending-none, ending-more, ending-shows}
 
--- ---- the loop: from a to x with so many turns left
+-- ---- the loop
 
 abbrev pub reading : Known → List ℤ → ℕ → List ℕ → ℕ → Bool → Reading
 reading k points line window have last = record { held = held k points; line = line; window = window; have = have; last = last }
-
-pub record Walked (a x : Reading) (turns : ℕ) : Type 0 where
-  pub earlier : List Reading
-  pub reached : Reached a earlier x
-  pub spent : turns + length earlier ≡ 72057594037927936
-
-pub walked-none : (a : Reading) → Walked a a 72057594037927936
-unfolding Reached
-walked-none a = record { earlier = []; reached = refl; spent = refl }
 
 -- a step from x
 module _ (x : Reading) (s : TraverseStep) (out : List ℤ) (e : leaves s out ≡ traverseStep (take (x .have) (x .window)) (x .last) (x .held) 0 (x .line)) where
@@ -52,26 +45,20 @@ module _ (x : Reading) (s : TraverseStep) (out : List ℤ) (e : leaves s out ≡
   asked c f = ap askedAt (ap (λ (y : Leaves TraverseStep). y .answer .answer) (sym step-is) ∙ f)
 
   -- and the refill
-  pub walked-on : {a : Reading} (turns : ℕ) → Walked a x turns → (c : Cursor) → s .answer ≡ progress.More c → (window′ : List ℕ) (n : ℕ) (last : Bool)
-      → Refilled (Holds n last) (x .window) window′ (c .at) (x .have) → (turns′ : ℕ) → turns ≡ turns′ + 1 → Walked a (reading (s .known) out (c .line) window′ n last) turns′
-  unfolding Reached
+  pub walked-on : {a : Reading} (turns : ℕ) → Walked Follows a x turns → (c : Cursor) → s .answer ≡ progress.More c → (window′ : List ℕ) (n : ℕ) (last : Bool)
+      → Refilled (Holds n last) (x .window) window′ (c .at) (x .have) → (turns′ : ℕ) → turns ≡ turns′ + 1 → Walked Follows a (reading (s .known) out (c .line) window′ n last) turns′
   walked-on turns w c f window′ n last h turns′ t =
       let g : stepOf x .answer .answer ≡ progress.More c = ap (λ (y : Leaves TraverseStep). y .answer .answer) (sym step-is) ∙ f in
       let p : leftFrom x ≡ c .at = asked c f in
-      record {
-        earlier = x ∷ w .earlier;
-        reached = (
-          record {
-            line = g ∙ ap (λ (k : ℕ). progress.More (record { at = k; line = c .line })) (sym p);
-            known = ap (λ (y : Leaves TraverseStep). held (y .answer .known) (y .numbers)) step-is;
-            window = subst (λ (k : ℕ). Refilled (Holds n last) (x .window) window′ k (x .have)) (sym p) h;
-          },
-          w .reached,
-        );
-        spent = omega (arith, w .spent);
-      }
+      walked-more x _ turns turns′ w
+      (record {
+        line = g ∙ ap (λ (k : ℕ). progress.More (record { at = k; line = c .line })) (sym p);
+        known = ap (λ (y : Leaves TraverseStep). held (y .answer .known) (y .numbers)) step-is;
+        window = subst (λ (k : ℕ). Refilled (Holds n last) (x .window) window′ k (x .have)) (sym p) h;
+      })
+      t
 
-module _ (fd : ℤ) (window : List ℕ) (points : List ℤ) (x : Reading) (turns : ℕ) (w : Walked (begun fd window points) x turns) where
+module _ (fd : ℤ) (window : List ℕ) (points : List ℤ) (x : Reading) (turns : ℕ) (w : Walked Follows (begun fd window points) x turns) where
   -- a step's answer is the file's
   pub answered : (s : TraverseStep) (out : List ℤ) → leaves s out ≡ traverseStep (take (x .have) (x .window)) (x .last) (x .held) 0 (x .line) → (r : TraverseFile) (window′ : List ℕ) (p : Loaded)
       → r ≡ fileOf p (s .known) → loadedBy (s .answer) ≡ p → KeptWindow p x window′ → Loads fd window points r window′ out
@@ -87,10 +74,10 @@ module _ (fd : ℤ) (window : List ℕ) (points : List ℤ) (x : Reading) (turns
 
   -- the turns are spent: the last step asked for more
   pub walked-out : turns ≡ 0 → (r : TraverseFile) → r ≡ fileOf Failed (x .held .known) → Loads fd window points r (x .window) (x .held .points)
-  unfolding Reached
+  unfolding Chain
   walked-out z r f = go (w .earlier) (w .reached) (w .spent)
     where
-      go : (earlier : List Reading) → Reached (begun fd window points) earlier x → turns + length earlier ≡ 72057594037927936 → Loads fd window points r (x .window) (x .held .points)
+      go : (earlier : List Reading) → Reached (begun fd window points) earlier x → turns + length earlier ≡ mostTurns → Loads fd window points r (x .window) (x .held .points)
       go [] q l = absurd (omega arith)
       go (v ∷ earlier) q l =
           record {
@@ -146,9 +133,6 @@ module _ (points : List ℤ) where
       got : List ℕ
       got = readBehind (x .have - leftFrom x) (y .have) (y .window)
 
-      never : true ≡ false → ⊥
-      never q = let n : _≡_ {A = ℕ} 0 1 = cc in omega arith
-
       on : (e : List ℕ) → readLeft (restAt (s ++ (got ++ e)) (y .held) (h .from + leftFrom x) (y .line)) ≡ traverseLeft (s ++ (got ++ e)) points
       on e =
           let t = s ++ (got ++ e) in
@@ -158,7 +142,7 @@ module _ (points : List ℤ) where
           ∙ step-tells x s h (got ++ e) (λ l. absurd (never (sym l ∙ not-ended x _ z)))
 
   pub reached-told : (fd : ℤ) (window : List ℕ) (earlier : List Reading) (x : Reading) → Reached (begun fd window points) earlier x → Told points x (textRead earlier x)
-  unfolding Reached textRead traverseLeft
+  unfolding Chain textRead traverseLeft
   reached-told fd window [] x q =
       subst (λ (y : Reading). Told points y []) (sym q)
       (record { from = 0; ending = ending-none window; tells = λ e c. refl })

@@ -19,6 +19,7 @@ use Rattle.files.specs.declared.Filled.the-variants.{Holds}
 use Rattle.files.specs.declared.Loaded.{Loaded}
 use Rattle.files.specs.declared.Loaded.the-variants.{Read, Refused, Failed}
 use Rattle.files.specs.declared.TraverseFile.{TraverseFile}
+use Rattle.files.specs.Chain.{Chain}
 use Rattle.files.specs.Filled.{InFront, Refilled, readBehind}
 
 abbrev pub fileOf : Loaded → Known → TraverseFile
@@ -67,9 +68,8 @@ pub record Follows (x y : Reading) : Type 0 where
   pub window : Refilled (Holds (y .have) (y .last)) (x .window) (y .window) (leftFrom x) (x .have)
 
 -- from a to x by steps; the standings before them, the newest first
-unfoldable pub Reached : Reading → List Reading → Reading → Type 0
-Reached a [] x = x ≡ a
-Reached a (w ∷ earlier) x = Follows w x × Reached a earlier w
+abbrev pub Reached : Reading → List Reading → Reading → Type 0
+Reached = Chain Follows
 
 -- the text that was read on the way
 unfoldable pub textRead : List Reading → Reading → List ℕ

@@ -3,4 +3,3 @@ pub mod Begun
 pub mod TurnEnds
 pub mod Turns
 pub mod Listing
-pub mod Walked

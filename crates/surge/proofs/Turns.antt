@@ -26,9 +26,10 @@ use Rattle.hydrograph.proofs.Tells.{turn-tells, turn-moves}
 use Rattle.hydrograph.proofs.Tells as tells
 use Rattle.surge.specs.declared.Standing.{Standing}
 use Rattle.surge.specs.Standing.{frontOf, standingWith, Memory, memory, turnOn, Follows, ReadBy, Waits, Moves, Moved}
+use Rattle.files.specs.Chain.{Chain}
 use Rattle.surge.specs.Printed.{Reached, readBy, textRead, wroteBy, wroteOn}
 use Rattle.surge.specs.Listing.{How, whole, read-failed, cut-short, PrintedOf, endedBy, Fresh, marchedLines, TurnsTell}
-use Rattle.surge.proofs.Walked.{never}
+use Rattle.files.proofs.Walked.{never}
 
 -- ---- bytes and numbers of a turn
 
@@ -311,11 +312,11 @@ module _ (t : Traverse) (a : Memory) (fresh : Fresh t a) where
       }
 
   told-at : (earlier : List Memory) (b : Memory) → Reached t a earlier b → b .standing .on ≡ true → Told t a b (textRead t earlier b) (wroteOn t earlier b)
-  unfolding Reached textRead wroteOn
+  unfolding Chain textRead wroteOn
   told-at [] b q on = subst (λ (v : Memory). Told t a v [] []) (sym q) told-first
   told-at (w ∷ earlier) b q on =
       subst (λ (k : Bool). WentBy t a w (textRead t earlier w) (wroteOn t earlier w) k (turnOn t w) b) on
-      (went t a w (textRead t earlier w) (wroteOn t earlier w) (told-at earlier w (q .1 .1) (q .0)) b (q .1 .0))
+      (went t a w (textRead t earlier w) (wroteOn t earlier w) (told-at earlier w (q .1) (q .0 .0)) b (q .0 .1))
 
   -- what was printed so far begins the lines
   so-far : (b : Memory) (s f : List ℕ) → Told t a b s f → (e : List ℕ) → Continues (b .standing .last) e
@@ -326,10 +327,10 @@ module _ (t : Traverse) (a : Memory) (fresh : Fresh t a) where
   )
 
 pub turns-tell : TurnsTell
-unfolding Reached textRead wroteOn
+unfolding Chain textRead wroteOn
 turns-tell t a fresh [] b q e c = subst (λ (v : Memory). PrintedOf cut-short (take (v .standing .used) (v .out)) (marchedLines t a e) × Begins [] (marchedLines t a e)) (sym q) (so-far t a fresh a [] [] (told-first t a fresh) e (subst (λ (v : Memory). Continues (v .standing .last) e) q c))
 turns-tell t a fresh (w ∷ earlier) b q e c =
-    go (b .standing .on) (went t a w (textRead t earlier w) (wroteOn t earlier w) (told-at t a fresh earlier w (q .1 .1) (q .0)) b (q .1 .0))
+    go (b .standing .on) (went t a w (textRead t earlier w) (wroteOn t earlier w) (told-at t a fresh earlier w (q .1) (q .0 .0)) b (q .0 .1))
   where
     s : List ℕ
     s = textRead t earlier w ++ readBy (turnOn t w .turn) (turnOn t w) w b

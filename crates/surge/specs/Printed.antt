@@ -15,6 +15,7 @@ use Rattle.files.specs.declared.Flushed.{Flushed}
 use Rattle.files.specs.declared.Loaded.{Loaded}
 use Rattle.files.specs.declared.Loaded.the-variants as loaded
 use Rattle.files.specs.declared.TraverseFile.{TraverseFile}
+use Rattle.files.specs.Chain.{Chain, mostTurns}
 use Rattle.files.specs.Filled.{readBehind, Flushes}
 use Rattle.files.specs.TraverseFile.{LoadsSome}
 use Rattle.hydrograph.specs.declared.Run.{Run}
@@ -27,10 +28,13 @@ use Rattle.surge.specs.Standing.{PutsAt, Memory, memory, turnOn, Moved}
 
 -- ---- turn after turn
 
--- from a to b by turns, each while the program goes on; the memories before them, the newest first
-unfoldable pub Reached : Traverse → Memory → List Memory → Memory → Type 0
-Reached t a [] b = b ≡ a
-Reached t a (w ∷ earlier) b = (w .standing .on ≡ true) × (Moved t w b × Reached t a earlier w)
+-- a turn, made while the program goes on
+abbrev pub TurnMade : Traverse → Memory → Memory → Type 0
+TurnMade t a b = (a .standing .on ≡ true) × Moved t a b
+
+-- from a to b by turns; the memories before them, the newest first
+abbrev pub Reached : Traverse → Memory → List Memory → Memory → Type 0
+Reached t = Chain (TurnMade t)
 
 -- the bytes that a turn read, and the text read on the way
 abbrev pub readBy : Turn → LeftTurn → Memory → Memory → List ℕ
@@ -65,7 +69,7 @@ pub record Marches (fd : ℤ) (t : Traverse) (run : Run) (used : ℕ) (window : 
   pub earlier : List Memory
   pub standing : Standing
   pub reached : Reached t (memory (begunAt fd run used) window numbers rows out) earlier (memory standing window′ numbers′ rows′ out′)
-  pub ended : standing .on ≡ true → length earlier ≡ 72057594037927936
+  pub ended : standing .on ≡ true → length earlier ≡ mostTurns
   pub waits-are : waits ≡ standing .used
 
 -- the same of a file by its name: the descriptor is the system's

@@ -2,9 +2,10 @@
 -- it; the turns fall. Assumes nothing.
 use Rattle.files.specs.Filled.{Refills, InFront, Refilled}
 use Rattle.files.specs.declared.Loaded.the-variants.{Read, Refused, Failed}
-use Rattle.files.specs.TraverseFile.{loadedBy, begun}
+use Rattle.files.specs.TraverseFile.{loadedBy, begun, Follows}
 use Rattle.files.proofs.Asks.{Asks, traverse-asks}
-use Rattle.files.proofs.Reached.{reading, Walked, walked-none, asked, answered, walked-on, walked-out}
+use Rattle.files.proofs.Reached.{reading, asked, answered, walked-on, walked-out}
+use Rattle.files.proofs.Walked.{Walked, walked-none}
 use Rattle.files.specs.declared.Filled.{Filled}
 use Rattle.reader.specs.declared.traverse.TraverseStep.{TraverseStep}
 use Rattle.reader.specs.Lines.{Leaves}
@@ -26,18 +27,18 @@ use Rattle.files.proofs.load_traverse.Tie as tie
 
 abbrev Inv-loop : tie.InvT-loop
 Inv-loop fd buf₀ points₀ turns₀ k₀ line₀ have₀ last₀ t15 buf points turns k line have last =
-    (length buf ≡ length buf₀) × (length points ≡ length points₀) × (have ≤ length buf) × Walked (begun (toZ w32 fd) buf₀ points₀) (reading k points line buf have last) turns
+    (length buf ≡ length buf₀) × (length points ≡ length points₀) × (have ≤ length buf) × Walked Follows (begun (toZ w32 fd) buf₀ points₀) (reading k points line buf have last) turns
 
 abbrev μ-loop : tie.MeasureT-loop
 μ-loop fd buf₀ points₀ turns₀ k₀ line₀ have₀ last₀ t15 buf points turns k line have last = turns
 
 -- the steps so far, from the descriptor that was passed
 walk : (c : tie.At-loop Inv-loop μ-loop)
-    → Walked (begun (c .before .before .before .args .fd) (now (c .before .before .before .args .buf)) (now (c .before .before .before .args .points)))
+    → Walked Follows (begun (c .before .before .before .args .fd) (now (c .before .before .before .args .buf)) (now (c .before .before .before .args .points)))
     (reading (c .loop .k) (c .loop .points) (c .loop .line) (c .loop .buf) (c .loop .have) (c .loop .last)) (c .loop .turns)
 walk c =
     let s = c .before .before .before in
-    subst (λ (z : ℤ). Walked (begun z (now (s .args .buf)) (now (s .args .points))) (reading (c .loop .k) (c .loop .points) (c .loop .line) (c .loop .buf) (c .loop .have) (c .loop .last)) (c .loop .turns))
+    subst (λ (z : ℤ). Walked Follows (begun z (now (s .args .buf)) (now (s .args .points))) (reading (c .loop .k) (c .loop .points) (c .loop .line) (c .loop .buf) (c .loop .have) (c .loop .last)) (c .loop .turns))
     (toZ-ofZ {z = s .args .fd} (s .fits .fd)) (c .loop .inv .3)
 
 -- a step stops for more of the text within what the window holds, and where it is short of a line

@@ -11,8 +11,8 @@ use denote.Ref.{now}
 use borrow.Author.Tests.{not-true, not-false}
 use Rattle.records.specs.Shapes.{traverse}
 use Rattle.surge.specs.Standing.{Stands, memory}
-use Rattle.surge.specs.Printed.{begunAt}
-use Rattle.surge.proofs.Walked.{never, Walked, walked-none, walked-on}
+use Rattle.surge.specs.Printed.{TurnMade, begunAt}
+use Rattle.files.proofs.Walked.{never, Walked, walked-none, walked-more}
 use borrow.Author.Needs.{needs}
 use Rattle.surge.proofs.march_storm.Statement.{statement}
 use Rattle.surge.proofs.march_storm.Tie as tie
@@ -20,23 +20,23 @@ use Rattle.surge.proofs.march_storm.Tie as tie
 abbrev Inv-loop : tie.InvT-loop
 Inv-loop fd buf₀ head points numbers₀ rows₀ out₀ used turns₀ x₀ buf numbers rows out turns x =
     (length buf ≡ length buf₀) × (length numbers ≡ length numbers₀) × (length rows ≡ length rows₀) × (length out ≡ length out₀) × Stands x (length buf) (length out) × (x .on ≡ true)
-    × Walked (traverse head points) (memory x₀ buf₀ numbers₀ rows₀ out₀) (memory x buf numbers rows out) turns
+    × Walked (TurnMade (traverse head points)) (memory x₀ buf₀ numbers₀ rows₀ out₀) (memory x buf numbers rows out) turns
 
 abbrev μ-loop : tie.MeasureT-loop
 μ-loop fd buf₀ head points numbers₀ rows₀ out₀ used turns₀ x₀ buf numbers rows out turns x = turns
 
 -- the turns so far, from the descriptor that was passed
 walk : (c : tie.At-loop Inv-loop μ-loop) → let s = c .before .before .before .args in
-    Walked (traverse (s .head) (now (s .points))) (memory (begunAt (s .fd) (s .run) (s .used)) (now (s .buf)) (now (s .numbers)) (now (s .rows)) (now (s .out)))
+    Walked (TurnMade (traverse (s .head) (now (s .points)))) (memory (begunAt (s .fd) (s .run) (s .used)) (now (s .buf)) (now (s .numbers)) (now (s .rows)) (now (s .out)))
     (memory (c .loop .x) (c .loop .buf) (c .loop .numbers) (c .loop .rows) (c .loop .out)) (c .loop .turns)
 walk c =
     let s = c .before .before .before in
-    subst (λ (z : ℤ). Walked (traverse (s .args .head) (now (s .args .points))) (memory (begunAt z (s .args .run) (s .args .used)) (now (s .args .buf)) (now (s .args .numbers)) (now (s .args .rows)) (now (s .args .out)))
+    subst (λ (z : ℤ). Walked (TurnMade (traverse (s .args .head) (now (s .args .points)))) (memory (begunAt z (s .args .run) (s .args .used)) (now (s .args .buf)) (now (s .args .numbers)) (now (s .args .rows)) (now (s .args .out)))
     (memory (c .loop .x) (c .loop .buf) (c .loop .numbers) (c .loop .rows) (c .loop .out)) (c .loop .turns))
     (toZ-ofZ {z = s .args .fd} (s .fits .fd)) (c .loop .inv .6)
 
 loop-holds : tie.Need-loop-holds Inv-loop μ-loop
-loop-holds c = (search needs, search needs, search needs, search needs, record { place = c .before .before .pre .place; held = omega arith; waits = c .before .before .pre .waits }, refl, walked-none _ _)
+loop-holds c = (search needs, search needs, search needs, search needs, record { place = c .before .before .pre .place; held = omega arith; waits = c .before .before .pre .waits }, refl, walked-none _)
 
 sub-turns : tie.Need-sub-turns Inv-loop μ-loop
 sub-turns c = search needs
@@ -64,7 +64,7 @@ returns c =
     let a = c .before .before .before .before .before .before .before .before .before .before .before .before .before .before in
     let k = c .before .before .before .before .before .before .before .before .turn in
     let off = not-true _ (c .if1 .taken) in
-    let w = walked-on _ _ _ (a .loop .turns) (a .loop .turns - 1) (walk a) (a .loop .inv .5) (k .ensures .1) (omega (arith, c .before .before .before .before .before .before .before .before .before .before .before .before .before .loop-test .taken)) in
+    let w = walked-more _ _ (a .loop .turns) (a .loop .turns - 1) (walk a) (a .loop .inv .5, k .ensures .1) (omega (arith, c .before .before .before .before .before .before .before .before .before .before .before .before .before .loop-test .taken)) in
     (k .ensures .0 .waits, record { earlier = w .earlier; standing = k .result; reached = w .reached; ended = λ on. absurd (never (sym on ∙ off)); waits-are = refl })
 
 loop-less : tie.Need-loop-less Inv-loop μ-loop
@@ -74,7 +74,7 @@ loop-again : tie.Need-loop-again Inv-loop μ-loop
 loop-again c =
     let a = c .before .before .before .before .before .before .before .before .before .before .before .before .before .before in
     let k = c .before .before .before .before .before .before .before .before .turn in
-    (search needs, search needs, search needs, search needs, k .ensures .0, not-false _ (c .if1 .left), walked-on _ _ _ _ _ (a .loop .inv .6) (a .loop .inv .5) (k .ensures .1) (omega (arith, c .before .before .before .before .before .before .before .before .before .before .before .before .before .loop-test .taken)))
+    (search needs, search needs, search needs, search needs, k .ensures .0, not-false _ (c .if1 .left), walked-more _ _ _ _ (a .loop .inv .6) (a .loop .inv .5, k .ensures .1) (omega (arith, c .before .before .before .before .before .before .before .before .before .before .before .before .before .loop-test .taken)))
 
 same-length-5 : tie.Need-same-length-5 Inv-loop μ-loop
 same-length-5 c = search needs
