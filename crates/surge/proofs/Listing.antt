@@ -2,7 +2,7 @@
 -- `files`). Assumes nothing.
 use mathlib.Core.Path.{_≡_, refl, sym, ap, subst, _∙_}
 use mathlib.Core.Bool.{Bool, true, false}
-use mathlib.Core.List.{List, [], _∷_, _++_, append-assoc}
+use mathlib.Core.List.{List, [], _∷_, _++_, append-assoc, append-nil}
 use native.Mathlib.Omega.{arith}
 use Prim.Native.Nat.{ℕ, zero, suc, _+_, _-_, _*_, _≤_}
 use lib.ListN.{length, take, getD, replicate}
@@ -30,12 +30,9 @@ use Rattle.march.specs.Given.{segments}
 use Rattle.march.specs.Checks.{openOf}
 use Rattle.march.specs.March.{freshRowAt}
 use Rattle.march.specs.Demand3.{freshRows}
-use Rattle.files.specs.declared.Flushed.{Flushed}
-use Rattle.files.specs.declared.Flushed.the-variants as flushed
 use Rattle.files.specs.declared.Loaded.{Loaded}
 use Rattle.files.specs.declared.Loaded.the-variants as loaded
 use Rattle.files.specs.declared.TraverseFile.{TraverseFile}
-use Rattle.files.specs.Filled.{Flushes}
 use Rattle.files.specs.TraverseFile.{Continues, Tells, HasPoints}
 use Rattle.files.specs.TraverseFile as files
 use Rattle.files.proofs.PointsRead.{loads-has}
@@ -43,8 +40,8 @@ use Rattle.files.proofs.Reached.{file-tells}
 use Rattle.hydrograph.specs.Listing.{refusalLine, stormLines, afterOpening, afterTraverse, listingOf}
 use Rattle.hydrograph.specs.Turns.{Begins, LeftTurn, lineRoom}
 use Rattle.surge.specs.Standing.{noRows, Memory, memory}
-use Rattle.surge.specs.Printed.{textRead, wroteOn, begunAt, MarchesSome, beginOn, AfterBegin, traverseIn, rowsIn, AfterFile}
-use Rattle.surge.specs.Listing.{How, whole, read-failed, cut-short, PrintedOf, howMarched, cameTo, cameBy, cameAfter, cameFrom, WroteLast, RunPrints}
+use Rattle.surge.specs.Printed.{textRead, handedOn, begunAt, MarchesSome, beginOn, AfterBegin, traverseIn, rowsIn, AfterFile}
+use Rattle.surge.specs.Listing.{How, whole, read-failed, cut-short, PrintedOf, howMarched, cameAfter, cameFrom, RunPrints}
 use Rattle.surge.proofs.Begun.{begunBy, begin-is}
 use Rattle.surge.proofs.Turns.{take-written, turns-tell}
 
@@ -139,29 +136,21 @@ module _ (s storm : List ℕ) (points : List ℤ) where
 -- ---- the last write
 
 -- one line alone
-put-alone : (line out : List ℕ) (waits : ℕ) (out′ : List ℕ) → waits ≡ 0 + length line → out′ ≡ written line 0 out → (n : ℕ) → n ≡ waits → take n out′ ≡ line
-put-alone line out waits out′ w o n e =
-    ap (λ (k : ℕ). take k out′) (e ∙ w) ∙ ap (take (0 + length line)) o ∙ take-written line 0 out (omega arith)
-
-begins-none : (listing : List ℕ) → Begins [] listing
-begins-none listing = record { rest = listing; joined = refl }
-
--- the listing is one line
-last-line : (r : Flushed) (line out : List ℕ) (waits : ℕ) (out′ listing : List ℕ) → waits ≡ 0 + length line → out′ ≡ written line 0 out → Flushes r waits → listing ≡ line
-    → WroteLast r (cameTo whole) out′ listing
-last-line (flushed.Wrote n) line out waits out′ listing w o f e = put-alone line out waits out′ w o n f ∙ sym e
-last-line flushed.Failed line out waits out′ listing w o f e = begins-none listing
+put-alone : (line out : List ℕ) (waits : ℕ) (out′ : List ℕ) → waits ≡ 0 + length line → out′ ≡ written line 0 out → take waits out′ ≡ line
+put-alone line out waits out′ w o = ap (λ (k : ℕ). take k out′) w ∙ ap (take (0 + length line)) o ∙ take-written line 0 out (omega arith)
 
 -- reading the traverse failed
-last-failed : (r : Flushed) (out : List ℕ) (waits : ℕ) (out′ listing : List ℕ) → waits ≡ 0 + length failedLine → out′ ≡ written failedLine 0 out → Flushes r waits → WroteLast r (cameTo read-failed) out′ listing
-last-failed (flushed.Wrote n) out waits out′ listing w o f = record { sound = []; line = put-alone failedLine out waits out′ w o n f; begins = begins-none listing }
-last-failed flushed.Failed out waits out′ listing w o f = begins-none listing
+failed-alone : (out : List ℕ) (waits : ℕ) (out′ listing : List ℕ) → waits ≡ 0 + length failedLine → out′ ≡ written failedLine 0 out → PrintedOf read-failed (take waits out′) listing
+failed-alone out waits out′ listing w o = record { sound = []; line = put-alone failedLine out waits out′ w o; begins = record { rest = listing; joined = refl } }
 
 -- ---- a traverse that was read
 
 module _ (t : Traverse) (window : List ℕ) (numbers rows : List ℤ) (out : List ℕ) (room : lineRoom ≤ length out) (waits : ℕ) (window′ : List ℕ) (numbers′ rows′ : List ℤ) (out′ : List ℕ)
-    (rows-fresh : rows ≡ freshRows t) (holds : recordSize (count t) ≤ length numbers) (r : Flushed) (flushes : Flushes r waits) where
-  names-are : take (0 + length namesLine) (written namesLine 0 out) ≡ namesLine
+    (rows-fresh : rows ≡ freshRows t) (holds : recordSize (count t) ≤ length numbers) where
+  abbrev names : List ℕ
+  names = take (0 + length namesLine) (written namesLine 0 out)
+
+  names-are : names ≡ namesLine
   names-are = take-written namesLine 0 out (omega arith)
 
   abbrev lines : List ℕ → List ℕ
@@ -173,46 +162,41 @@ module _ (t : Traverse) (window : List ℕ) (numbers rows : List ℤ) (out : Lis
     abbrev last : Memory
     last = memory (m .marches .standing) window′ numbers′ rows′ out′
 
-    abbrev wrote : List ℕ
-    wrote = wroteOn t (m .marches .earlier) (memory (m .marches .standing) window′ numbers′ rows′ out′)
+    abbrev handed : List ℕ
+    handed = handedOn t (m .marches .earlier)
 
     abbrev storm : List ℕ
     storm = textRead t (m .marches .earlier) (memory (m .marches .standing) window′ numbers′ rows′ out′) ++ e
 
-    told : PrintedOf (howMarched t (m .marches .earlier) last) (wrote ++ take (m .marches .standing .used) out′) (lines storm) × Begins wrote (lines storm)
+    told : PrintedOf (howMarched t (m .marches .earlier) last) (handed ++ take (m .marches .standing .used) out′) (lines storm)
     told =
-        subst (λ (l : List ℤ). let all = stormLines t (openOf mostPoints t .state) l (stormOf storm (count t)) in PrintedOf (howMarched t (m .marches .earlier) last) (wrote ++ take (m .marches .standing .used) out′) all × Begins wrote all) rows-fresh
+        subst (λ (l : List ℤ). PrintedOf (howMarched t (m .marches .earlier) last) (handed ++ take (m .marches .standing .used) out′) (stormLines t (openOf mostPoints t .state) l (stormOf storm (count t)))) rows-fresh
         (turns-tell t (memory (begunAt (m .fd) (begunBy t out room opened .run) 0) window numbers rows (begunBy t out room opened .out)) (record { place = refl; line = refl; none = refl; waits = omega arith; room = holds }) (m .marches .earlier) last (m .marches .reached) e c)
 
     -- behind the names line
-    marched : (r : Flushed) → Flushes r waits
-        → WroteLast r (cameBy t window numbers rows waits window′ numbers′ rows′ out′ (take (0 + length namesLine) (written namesLine 0 out)) (begunBy t out room opened) m) out′ (namesLine ++ lines storm)
-    marched (flushed.Wrote n) f =
+    marched : PrintedOf (howMarched t (m .marches .earlier) last) ((names ++ handed) ++ take waits out′) (namesLine ++ lines storm)
+    marched =
         subst (λ (p : List ℕ). PrintedOf (howMarched t (m .marches .earlier) last) p (namesLine ++ lines storm))
-        (ap (λ (k : ℕ). namesLine ++ (wrote ++ take k out′)) (sym (f ∙ m .marches .waits-are)) ∙ sym (append-assoc namesLine wrote (take n out′)) ∙ ap (λ (l : List ℕ). (l ++ wrote) ++ take n out′) (sym names-are))
-        (behind (howMarched t (m .marches .earlier) last) namesLine (wrote ++ take (m .marches .standing .used) out′) (lines storm) (told .0))
-    marched flushed.Failed f =
-        subst (λ (l : List ℕ). Begins (l ++ wrote) (namesLine ++ lines storm)) (sym names-are) (behind cut-short namesLine wrote (lines storm) (told .1))
+        (ap (λ (k : ℕ). namesLine ++ (handed ++ take k out′)) (sym (m .marches .waits-are)) ∙ sym (append-assoc namesLine handed (take waits out′)) ∙ ap (λ (l : List ℕ). (l ++ handed) ++ take waits out′) (sym names-are))
+        (behind (howMarched t (m .marches .earlier) last) namesLine (handed ++ take (m .marches .standing .used) out′) (lines storm) told)
 
   -- by what opening answered
   by-opening : (told : ToldOpen) (wrote : Bool) (after : AfterBegin t window numbers rows waits window′ numbers′ rows′ out′ (begunBy t out room told .turn) wrote (begunBy t out room told)) (e : List ℕ)
       → let c = cameAfter t window numbers rows waits window′ numbers′ rows′ out′ (begunBy t out room told .turn) wrote (begunBy t out room told) after in
-      Continues (c .last) e → WroteLast r c out′ (afterOpening told (openOf mostPoints t .state) t (stormOf (c .text ++ e) (count t)))
-  by-opening opened true after e c = marched after e c r flushes
-  by-opening opened false after e c = unwritten r flushes
-    where
-      unwritten : (r : Flushed) → Flushes r waits → WroteLast r (cameTo cut-short) out′ (namesLine ++ lines e)
-      unwritten (flushed.Wrote n) f = subst (λ (k : ℕ). Begins (take k out′) (namesLine ++ lines e)) (sym (f ∙ after .0)) (begins-none (namesLine ++ lines e))
-      unwritten flushed.Failed f = begins-none (namesLine ++ lines e)
-  by-opening (notOpened number place) wrote after e c = last-line r (refusedLine number place) out waits out′ _ (after .0) (after .1) flushes refl
+      Continues (c .last) e → PrintedOf (c .how) (c .handed ++ take waits out′) (afterOpening told (openOf mostPoints t .state) t (stormOf (c .text ++ e) (count t)))
+  by-opening opened true after e c = marched after e c
+  by-opening opened false after e c =
+      let none : names ++ take waits out′ ≡ namesLine = ap (λ (k : ℕ). names ++ take k out′) (after .0) ∙ append-nil names ∙ names-are in
+      record { rest = lines e; joined = ap (λ (l : List ℕ). l ++ lines e) none }
+  by-opening (notOpened number place) wrote after e c = put-alone (refusedLine number place) out waits out′ (after .0) (after .1)
 
   pub by-begin : (l : LeftTurn) → l ≡ begunBy t out room (openOf mostPoints t .answer) → (wrote : Bool) (after : AfterBegin t window numbers rows waits window′ numbers′ rows′ out′ (l .turn) wrote l) (e : List ℕ)
       → let c = cameAfter t window numbers rows waits window′ numbers′ rows′ out′ (l .turn) wrote l after in
-      Continues (c .last) e → WroteLast r c out′ (opening (c .text ++ e) t)
+      Continues (c .last) e → PrintedOf (c .how) (c .handed ++ take waits out′) (opening (c .text ++ e) t)
   by-begin l q =
       subst (λ (l : LeftTurn). (wrote : Bool) (after : AfterBegin t window numbers rows waits window′ numbers′ rows′ out′ (l .turn) wrote l) (e : List ℕ)
       → let c = cameAfter t window numbers rows waits window′ numbers′ rows′ out′ (l .turn) wrote l after in
-      Continues (c .last) e → WroteLast r c out′ (opening (c .text ++ e) t))
+      Continues (c .last) e → PrintedOf (c .how) (c .handed ++ take waits out′) (opening (c .text ++ e) t))
       (sym q) (by-opening (openOf mostPoints t .answer))
 
 -- ---- the run
@@ -229,14 +213,16 @@ run-prints window points numbers rows out r window′ points′ numbers′ rows�
 
     by : (k : Loaded) (after : AfterFile (x .file) points′ (x .window₁) numbers rows out (x .waits) window′ numbers′ rows′ out′ k (x .rows₁)) → Tells k (x .file) s points points′ → HasPoints k (x .file .count) (length points′)
         → let c = cameFrom (x .file) points′ (x .window₁) numbers rows out (x .waits) window′ numbers′ rows′ out′ k (x .rows₁) after in
-        Continues (c .last) e₂ → WroteLast r c out′ (listingOf s (c .text ++ e₂))
-    by loaded.Failed after told has c = last-failed r out (x .waits) out′ _ (after .0 .waits-are) (after .0 .out-is) (x .flushes)
+        Continues (c .last) e₂ → PrintedOf (c .how) (c .handed ++ take (x .waits) out′) (listingOf s (c .text ++ e₂))
+    by loaded.Failed after told has c = failed-alone out (x .waits) out′ _ (after .0 .waits-are) (after .0 .out-is)
     by (loaded.Refused refusal) after told has c =
-        last-line r (refusalLine refusal) out (x .waits) out′ _ (after .0 .waits-are) (after .0 .out-is) (x .flushes) (listing-refused s e₂ points′ refusal (ap (traverseLeft s) (sym (lent .points-fresh)) ∙ told))
+        put-alone (refusalLine refusal) out (x .waits) out′ (after .0 .waits-are) (after .0 .out-is)
+        ∙ sym (listing-refused s e₂ points′ refusal (ap (traverseLeft s) (sym (lent .points-fresh)) ∙ told))
     by loaded.Read after told has c =
         let t = traverseIn (x .file) points′ in
         let n = count-is (x .file) points′ (has .1) in
-        subst (WroteLast r _ out′) (sym (listing-read s _ points′ (x .file) (ap (traverseLeft s) (sym (lent .points-fresh)) ∙ told)))
+        let came = cameFrom (x .file) points′ (x .window₁) numbers rows out (x .waits) window′ numbers′ rows′ out′ loaded.Read (x .rows₁) after in
+        subst (PrintedOf (came .how) (came .handed ++ take (x .waits) out′)) (sym (listing-read s (came .text ++ e₂) points′ (x .file) (ap (traverseLeft s) (sym (lent .points-fresh)) ∙ told)))
         (by-begin t (x .window₁) numbers (take (rowsIn (x .file)) rows) out (lent .out-holds) (x .waits) window′ numbers′ (x .rows₁) out′
-        (ap (take (rowsIn (x .file))) (lent .rows-fresh) ∙ rows-are (x .file) points′ (has .0) (has .1) (has .2)) (omega (arith, lent .record-holds, n, has .2)) r (x .flushes)
+        (ap (take (rowsIn (x .file))) (lent .rows-fresh) ∙ rows-are (x .file) points′ (has .0) (has .1) (has .2)) (omega (arith, lent .record-holds, n, has .2))
         (beginOn t out) (begin-is t out (lent .out-holds)) (after .0 .wrote) (after .0 .after) e₂ c)

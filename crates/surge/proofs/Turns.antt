@@ -27,7 +27,7 @@ use Rattle.hydrograph.proofs.Tells as tells
 use Rattle.surge.specs.declared.Standing.{Standing}
 use Rattle.surge.specs.Standing.{frontOf, standingWith, Memory, memory, turnOn, Follows, ReadBy, Waits, Moves, Moved}
 use Rattle.files.specs.Chain.{Chain}
-use Rattle.surge.specs.Printed.{Reached, readBy, textRead, wroteBy, wroteOn}
+use Rattle.surge.specs.Printed.{Reached, readBy, textRead, handedBy, handedOn}
 use Rattle.surge.specs.Listing.{How, whole, read-failed, cut-short, PrintedOf, endedBy, Fresh, marchedLines, TurnsTell}
 use Rattle.files.proofs.Walked.{never}
 
@@ -56,7 +56,7 @@ heard-long t w last at line st rows lent = go (eqb line 0)
 
 -- ---- how it stands
 
--- after the text s was read and the bytes f were written, from the memory a on: with what waits these are the lines but for those still to come
+-- after the text s was read and the bytes f were handed over, from the memory a on: with what waits these are the lines but for those still to come
 pub record Told (t : Traverse) (a b : Memory) (s f : List ℕ) : Type 0 where
   pub from : ℕ
   pub ending : Ending s (b .window) from (b .standing .have)
@@ -70,7 +70,6 @@ pub record Told (t : Traverse) (a b : Memory) (s f : List ℕ) : Type 0 where
 -- at the end of the turns
 pub record Final (t : Traverse) (a : Memory) (how : How) (last : Bool) (s f waits : List ℕ) : Type 0 where
   pub printed : (e : List ℕ) → Continues last e → PrintedOf how (f ++ waits) (marchedLines t a (s ++ e))
-  pub written : (e : List ℕ) → Continues last e → Begins f (marchedLines t a (s ++ e))
 
 plain : {t : Traverse} {a b : Memory} {s f : List ℕ} → Told t a b s f → Told t a b (s ++ []) (f ++ [])
 plain {t} {a} {b} {s} {f} h = subst (λ (x : List ℕ). Told t a b x (f ++ [])) (sym (append-nil s)) (subst (λ (x : List ℕ). Told t a b s x) (sym (append-nil f)) h)
@@ -96,10 +95,6 @@ module _ (t : Traverse) (a : Memory) (x : Standing) (window : List ℕ) (numbers
       ∙ ap (λ (l : List ℕ). (f ++ take (x .used) out) ++ l)
       (sym (turn-tells (s ++ e) (take (x .have) window) t (h .from) (x .last) (ending-shows s window (h .from) (x .have) (x .last) (h .ending) e c) (x .run .cursor .at) (x .run .cursor .line) (x .run .state) rows
       (let n = length-take-le (x .have) window (h .ending .held) in omega (arith, h .place)) (λ z. let q = h .start z in omega arith)))
-
-  -- what was written begins the lines, whatever waits
-  wrote-begins : (waits rest : List ℕ) (lines : List ℕ) → lines ≡ (f ++ waits) ++ rest → Begins f lines
-  wrote-begins waits rest lines e = record { rest = waits ++ rest; joined = sym (e ∙ append-assoc f waits rest) }
 
   module _ (numbers′ : List ℤ) (long : length numbers′ ≡ length numbers) where
     -- a line waits, or the names line was read
@@ -148,10 +143,7 @@ module _ (t : Traverse) (a : Memory) (x : Standing) (window : List ℕ) (numbers
   final-end : (bytes out′ : List ℕ) → take (x .used + length bytes) out′ ≡ take (x .used) out ++ bytes → ((e : List ℕ) → Continues (x .last) e → marchedLines t a (s ++ e) ≡ (f ++ take (x .used) out) ++ bytes)
       → Final t a whole (x .last) s f (take (x .used + length bytes) out′)
   final-end bytes out′ k q =
-      record {
-        printed = λ e c. ap (λ (m : List ℕ). f ++ m) k ∙ sym (append-assoc f (take (x .used) out) bytes) ∙ sym (q e c);
-        written = λ e c. wrote-begins (take (x .used) out) bytes _ (q e c);
-      }
+      record { printed = λ e c. ap (λ (m : List ℕ). f ++ m) k ∙ sym (append-assoc f (take (x .used) out) bytes) ∙ sym (q e c) }
 
   -- the line `failed` behind what waited
   final-failed : Final t a read-failed (x .last) s f (take (x .used + length failedLine) (written failedLine (x .used) out))
@@ -162,24 +154,20 @@ module _ (t : Traverse) (a : Memory) (x : Standing) (window : List ℕ) (numbers
           line = ap (λ (m : List ℕ). f ++ m) (take-written failedLine (x .used) out (h .waits)) ∙ sym (append-assoc f (take (x .used) out) failedLine);
           begins = record { rest = _; joined = sym (h .tells e c) };
         };
-        written = λ e c. wrote-begins (take (x .used) out) _ _ (h .tells e c);
       }
 
-  -- what waited was not written
-  final-cut : Final t a cut-short (x .last) s f []
+  -- what waited was handed over, and the write failed
+  final-cut : Final t a cut-short (x .last) s (f ++ take (x .used) out) []
   final-cut =
-      record {
-        printed = λ e c. subst (λ (m : List ℕ). Begins m (marchedLines t a (s ++ e))) (sym (append-nil f)) (wrote-begins (take (x .used) out) _ _ (h .tells e c));
-        written = λ e c. wrote-begins (take (x .used) out) _ _ (h .tells e c);
-      }
+      record { printed = λ e c. subst (λ (m : List ℕ). Begins m (marchedLines t a (s ++ e))) (sym (append-nil (f ++ take (x .used) out))) (record { rest = _; joined = sym (h .tells e c) }) }
 
 -- ---- what a turn comes to, by its answer l
 
 module _ (t : Traverse) (a w : Memory) (s f : List ℕ) where
   -- it goes on, or it was the last
   abbrev WentBy : Bool → LeftTurn → Memory → Type 0
-  WentBy true l b = Told t a b (s ++ readBy (l .turn) l w b) (f ++ wroteBy (l .turn) w b)
-  WentBy false l b = Final t a (endedBy (l .turn) false) (b .standing .last) (s ++ readBy (l .turn) l w b) (f ++ wroteBy (l .turn) w b) (take (b .standing .used) (b .out))
+  WentBy true l b = Told t a b (s ++ readBy (l .turn) l w b) (f ++ handedBy (l .turn) w)
+  WentBy false l b = Final t a (endedBy (l .turn) false) (b .standing .last) (s ++ readBy (l .turn) l w b) (f ++ handedBy (l .turn) w) (take (b .standing .used) (b .out))
 
   abbrev Went : LeftTurn → Memory → Type 0
   Went l b = WentBy (b .standing .on) l b
@@ -272,7 +260,9 @@ module _ (t : Traverse) (a w : Memory) (s f : List ℕ) (h : Told t a w s f) whe
             start = h .start;
             tells = λ e c. h .tells e c ∙ ap (λ (v : List ℕ). v ++ linesFrom (s ++ e) t (h .from + w .standing .run .cursor .at) (w .standing .run .cursor .line) (w .standing .run .state) (w .rows)) (sym (append-nil (f ++ take (w .standing .used) (w .out))));
           })
-      go false = plain-final (final-cut t a (w .standing) (w .window) (w .numbers) (w .rows) (w .out) s f h)
+      go false =
+          subst (λ (v : List ℕ). Final t a cut-short (w .standing .last) v (f ++ take (w .standing .used) (w .out)) []) (sym (append-nil s))
+          (final-cut t a (w .standing) (w .window) (w .numbers) (w .rows) (w .out) s f h)
 
   -- the turn's answer is one of these
   pub went : (b : Memory) → Moved t w b → Went t a w s f (turnOn t w) b
@@ -311,34 +301,31 @@ module _ (t : Traverse) (a : Memory) (fresh : Fresh t a) where
         tells = λ e c. ap (λ (n : ℕ). take (a .standing .used) (a .out) ++ linesFrom e t (0 + a .standing .run .cursor .at) n (a .standing .run .state) (a .rows)) (sym (fresh .line));
       }
 
-  told-at : (earlier : List Memory) (b : Memory) → Reached t a earlier b → b .standing .on ≡ true → Told t a b (textRead t earlier b) (wroteOn t earlier b)
-  unfolding Chain textRead wroteOn
+  told-at : (earlier : List Memory) (b : Memory) → Reached t a earlier b → b .standing .on ≡ true → Told t a b (textRead t earlier b) (handedOn t earlier)
+  unfolding Chain textRead handedOn
   told-at [] b q on = subst (λ (v : Memory). Told t a v [] []) (sym q) told-first
   told-at (w ∷ earlier) b q on =
-      subst (λ (k : Bool). WentBy t a w (textRead t earlier w) (wroteOn t earlier w) k (turnOn t w) b) on
-      (went t a w (textRead t earlier w) (wroteOn t earlier w) (told-at earlier w (q .1) (q .0 .0)) b (q .0 .1))
+      subst (λ (k : Bool). WentBy t a w (textRead t earlier w) (handedOn t earlier) k (turnOn t w) b) on
+      (went t a w (textRead t earlier w) (handedOn t earlier) (told-at earlier w (q .1) (q .0 .0)) b (q .0 .1))
 
   -- what was printed so far begins the lines
   so-far : (b : Memory) (s f : List ℕ) → Told t a b s f → (e : List ℕ) → Continues (b .standing .last) e
-      → PrintedOf cut-short (f ++ take (b .standing .used) (b .out)) (marchedLines t a (s ++ e)) × Begins f (marchedLines t a (s ++ e))
-  so-far b s f h e c = (
-    record { rest = _; joined = sym (h .tells e c) },
-    record { rest = take (b .standing .used) (b .out) ++ _; joined = sym (h .tells e c ∙ append-assoc f (take (b .standing .used) (b .out)) _) },
-  )
+      → PrintedOf cut-short (f ++ take (b .standing .used) (b .out)) (marchedLines t a (s ++ e))
+  so-far b s f h e c = record { rest = _; joined = sym (h .tells e c) }
 
 pub turns-tell : TurnsTell
-unfolding Chain textRead wroteOn
-turns-tell t a fresh [] b q e c = subst (λ (v : Memory). PrintedOf cut-short (take (v .standing .used) (v .out)) (marchedLines t a e) × Begins [] (marchedLines t a e)) (sym q) (so-far t a fresh a [] [] (told-first t a fresh) e (subst (λ (v : Memory). Continues (v .standing .last) e) q c))
+unfolding Chain textRead handedOn
+turns-tell t a fresh [] b q e c = subst (λ (v : Memory). PrintedOf cut-short (take (v .standing .used) (v .out)) (marchedLines t a e)) (sym q) (so-far t a fresh a [] [] (told-first t a fresh) e (subst (λ (v : Memory). Continues (v .standing .last) e) q c))
 turns-tell t a fresh (w ∷ earlier) b q e c =
-    go (b .standing .on) (went t a w (textRead t earlier w) (wroteOn t earlier w) (told-at t a fresh earlier w (q .1) (q .0 .0)) b (q .0 .1))
+    go (b .standing .on) (went t a w (textRead t earlier w) (handedOn t earlier) (told-at t a fresh earlier w (q .1) (q .0 .0)) b (q .0 .1))
   where
     s : List ℕ
     s = textRead t earlier w ++ readBy (turnOn t w .turn) (turnOn t w) w b
 
     f : List ℕ
-    f = wroteOn t earlier w ++ wroteBy (turnOn t w .turn) w b
+    f = handedOn t earlier ++ handedBy (turnOn t w .turn) w
 
-    go : (on : Bool) → WentBy t a w (textRead t earlier w) (wroteOn t earlier w) on (turnOn t w) b
-        → PrintedOf (endedBy (turnOn t w .turn) on) (f ++ take (b .standing .used) (b .out)) (marchedLines t a (s ++ e)) × Begins f (marchedLines t a (s ++ e))
+    go : (on : Bool) → WentBy t a w (textRead t earlier w) (handedOn t earlier) on (turnOn t w) b
+        → PrintedOf (endedBy (turnOn t w .turn) on) (f ++ take (b .standing .used) (b .out)) (marchedLines t a (s ++ e))
     go true h = so-far t a fresh b s f h e c
-    go false h = (h .printed e c, h .written e c)
+    go false h = h .printed e c

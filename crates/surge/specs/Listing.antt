@@ -1,6 +1,7 @@
--- Demand 2 as far as the program's edge: what a run printed is the listing of the texts that it read (`RunPrints`, proved in `proofs/Listing.antt`, of
--- every run that keeps the promise of `surge::run`), by way of the turns (`TurnsTell`, proved in `proofs/Turns.antt`, of every list of turns that keep
--- the promise of `surge::turn`). A text that was not read to its end may go on in any way: what was printed is the listing of each. Assumes nothing.
+-- Demand 2 as far as the program's edge: what a run handed over to be written is the listing of the texts that it read (`RunPrints`, proved in
+-- `proofs/Listing.antt`, of every run that keeps the promise of `surge::run`), by way of the turns (`TurnsTell`, proved in `proofs/Turns.antt`, of every
+-- list of turns that keep the promise of `surge::turn`). Where every write went out, that is what was printed; a write that failed was the last, and
+-- what was printed is a beginning. A text that was not read to its end may go on in any way: what was handed over is said of each. Assumes nothing.
 use mathlib.Core.Path.{_≡_}
 use mathlib.Core.Bool.{Bool, true, false}
 use mathlib.Core.List.{List, [], _∷_, _++_}
@@ -11,7 +12,6 @@ use Rattle.records.specs.Shapes.{Traverse, count}
 use Rattle.listing.specs.Lines.{failedLine}
 use Rattle.reader.specs.Storm.{recordSize, stormOf}
 use Rattle.files.specs.declared.Flushed.{Flushed}
-use Rattle.files.specs.declared.Flushed.the-variants as flushed
 use Rattle.files.specs.declared.Loaded.{Loaded}
 use Rattle.files.specs.declared.Loaded.the-variants as loaded
 use Rattle.files.specs.declared.TraverseFile.{TraverseFile}
@@ -22,9 +22,9 @@ use Rattle.hydrograph.specs.declared.Turn.the-variants as turn
 use Rattle.hydrograph.specs.Listing.{stormLines, listingOf}
 use Rattle.hydrograph.specs.Turns.{Begins, LeftTurn}
 use Rattle.surge.specs.Standing.{Lent, Memory, memory, turnOn}
-use Rattle.surge.specs.Printed.{Reached, textRead, wroteOn, MarchesSome, beginOn, AfterBegin, traverseIn, rowsIn, AfterFile, Runs}
+use Rattle.surge.specs.Printed.{Reached, textRead, handedOn, MarchesSome, beginOn, AfterBegin, traverseIn, rowsIn, AfterFile, Runs}
 
--- ---- how a run ended, and what was printed of a listing
+-- ---- how a run ended, and what it printed of a listing
 
 -- with the listing's last line; by a read that failed; or short of it: a write failed, or all turns are used up
 pub data How : Type 0 where
@@ -69,28 +69,27 @@ pub record Fresh (t : Traverse) (a : Memory) : Type 0 where
 abbrev pub marchedLines : Traverse → Memory → List ℕ → List ℕ
 marchedLines t a storm = take (a .standing .used) (a .out) ++ stormLines t (a .standing .run .state) (a .rows) (stormOf storm (count t))
 
--- what was written on the way, and what waits, is these lines of the text that was read, by how the turns ended
+-- what was handed over on the way, and what waits, is these lines of the text that was read, by how the turns ended
 abbrev pub TurnsTell : Type 0
 TurnsTell =
     (t : Traverse) (a : Memory) → Fresh t a → (earlier : List Memory) (b : Memory) → Reached t a earlier b → (e : List ℕ) → Continues (b .standing .last) e
-    → PrintedOf (howMarched t earlier b) (wroteOn t earlier b ++ take (b .standing .used) (b .out)) (marchedLines t a (textRead t earlier b ++ e))
-    × Begins (wroteOn t earlier b) (marchedLines t a (textRead t earlier b ++ e))
+    → PrintedOf (howMarched t earlier b) (handedOn t earlier ++ take (b .standing .used) (b .out)) (marchedLines t a (textRead t earlier b ++ e))
 
 -- ---- a run
 
--- what a run read of the storm, whether to its end, how the run ended but for its last write, and what it wrote before that
+-- what a run read of the storm, whether to its end, how the run ended, and what it handed over before its last write
 pub record Came : Type 0 where
   pub text : List ℕ
   pub last : Bool
   pub how : How
-  pub wrote : List ℕ
+  pub handed : List ℕ
 
 -- no storm was read
-abbrev pub cameTo : How → Came
-cameTo how = record { text = []; last = false; how = how; wrote = [] }
+abbrev pub cameTo : How → List ℕ → Came
+cameTo how handed = record { text = []; last = false; how = how; handed = handed }
 
 module _ (t : Traverse) (window : List ℕ) (numbers rows : List ℤ) (waits : ℕ) (window′ : List ℕ) (numbers′ rows′ : List ℤ) (out′ : List ℕ) where
-  -- by the turns: the names line was written before them
+  -- by the turns, with the names line before them
   abbrev pub cameBy : (names : List ℕ) (l : LeftTurn) → MarchesSome t (l .run) 0 window numbers rows (l .out) waits window′ numbers′ rows′ out′ → Came
   cameBy names l m =
       let b = memory (m .marches .standing) window′ numbers′ rows′ out′ in
@@ -98,28 +97,23 @@ module _ (t : Traverse) (window : List ℕ) (numbers rows : List ℤ) (waits : �
         text = textRead t (m .marches .earlier) b;
         last = m .marches .standing .last;
         how = howMarched t (m .marches .earlier) b;
-        wrote = names ++ wroteOn t (m .marches .earlier) b;
+        handed = names ++ handedOn t (m .marches .earlier);
       }
 
   abbrev pub cameAfter : (k : Turn) (wrote : Bool) (l : LeftTurn) → AfterBegin t window numbers rows waits window′ numbers′ rows′ out′ k wrote l → Came
   cameAfter (turn.Line k) true l m = cameBy (take k (l .out)) l m
-  cameAfter (turn.Line k) false l m = cameTo cut-short
-  cameAfter (turn.End k) wrote l m = cameTo whole
-  cameAfter turn.More wrote l m = cameTo cut-short
-  cameAfter turn.Full wrote l m = cameTo cut-short
+  cameAfter (turn.Line k) false l m = cameTo cut-short (take k (l .out))
+  cameAfter (turn.End k) wrote l m = cameTo whole []
+  cameAfter turn.More wrote l m = cameTo cut-short []
+  cameAfter turn.Full wrote l m = cameTo cut-short []
 
 module _ (file : TraverseFile) (points : List ℤ) (window : List ℕ) (numbers rows : List ℤ) (out : List ℕ) (waits : ℕ) (window′ : List ℕ) (numbers′ rows′ : List ℤ) (out′ : List ℕ) where
   abbrev pub cameFrom : (k : Loaded) (rows₁ : List ℤ) → AfterFile file points window numbers rows out waits window′ numbers′ rows′ out′ k rows₁ → Came
-  cameFrom loaded.Failed rows₁ a = cameTo read-failed
-  cameFrom (loaded.Refused refusal) rows₁ a = cameTo whole
+  cameFrom loaded.Failed rows₁ a = cameTo read-failed []
+  cameFrom (loaded.Refused refusal) rows₁ a = cameTo whole []
   cameFrom loaded.Read rows₁ a =
       let t = traverseIn file points in
       cameAfter t window numbers (take (rowsIn file) rows) waits window′ numbers′ rows₁ out′ (beginOn t out .turn) (a .0 .wrote) (beginOn t out) (a .0 .after)
-
--- the last write went out, or it failed
-abbrev pub WroteLast : Flushed → Came → List ℕ → List ℕ → Type 0
-WroteLast (flushed.Wrote n) c out′ listing = PrintedOf (c .how) (c .wrote ++ take n out′) listing
-WroteLast flushed.Failed c out′ listing = Begins (c .wrote) listing
 
 -- every run of `main`'s, on whatever was read
 abbrev pub RunPrints : Type 0
@@ -129,4 +123,4 @@ RunPrints =
     → let c = cameFrom (x .file) points′ (x .window₁) numbers rows out (x .waits) window′ numbers′ rows′ out′ (x .file .answer) (x .rows₁) (x .after) in
     let f = x .loads .loads in
     (e₁ e₂ : List ℕ) → Continues (f .at .last) e₁ → Continues (c .last) e₂
-    → WroteLast r c out′ (listingOf (files.textRead (f .earlier) (f .at) ++ e₁) (c .text ++ e₂))
+    → PrintedOf (c .how) (c .handed ++ take (x .waits) out′) (listingOf (files.textRead (f .earlier) (f .at) ++ e₁) (c .text ++ e₂))

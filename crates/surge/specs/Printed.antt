@@ -1,5 +1,5 @@
 -- The program turn after turn, and what it prints. No contract says what the system reads or writes, so what was read is whatever the refills brought
--- into the window, and what was written is what the turns handed over (`flush` answers how much). Everything else of a run is said here: the turns one
+-- into the window, and what is printed is what was handed over to `flush`. Everything else of a run is said here: the turns one
 -- after another (`Reached`), the storm (`Marches`), a traverse that was read (`Prints`), and the run (`Runs`, the promise of `surge::run`). Assumes
 -- nothing.
 use mathlib.Core.Path.{_≡_}
@@ -47,16 +47,17 @@ unfoldable pub textRead : Traverse → List Memory → Memory → List ℕ
 textRead t [] b = []
 textRead t (w ∷ earlier) b = textRead t earlier w ++ readBy (turnOn t w .turn) (turnOn t w) w b
 
--- the bytes that a turn wrote, and all that were written on the way: where there was no room for a line, all that waited
-abbrev pub wroteBy : Turn → Memory → Memory → List ℕ
-wroteBy turn.Full a b = cond (b .standing .on) (take (a .standing .used) (a .out)) []
-wroteBy turn.More a b = []
-wroteBy (turn.Line k) a b = []
-wroteBy (turn.End k) a b = []
+-- the bytes that a turn handed over to be written, and all that were on the way: where there was no room for a line, all that waited. A write
+-- that failed was the last: no turn comes after it, and nothing waits then (`Moves`)
+abbrev pub handedBy : Turn → Memory → List ℕ
+handedBy turn.Full a = take (a .standing .used) (a .out)
+handedBy turn.More a = []
+handedBy (turn.Line k) a = []
+handedBy (turn.End k) a = []
 
-unfoldable pub wroteOn : Traverse → List Memory → Memory → List ℕ
-wroteOn t [] b = []
-wroteOn t (w ∷ earlier) b = wroteOn t earlier w ++ wroteBy (turnOn t w .turn) w b
+unfoldable pub handedOn : Traverse → List Memory → List ℕ
+handedOn t [] = []
+handedOn t (w ∷ earlier) = handedOn t earlier ++ handedBy (turnOn t w .turn) w
 
 -- ---- a storm, from an empty window on
 

@@ -63,8 +63,8 @@ returns : tie.Need-returns Inv-loop μ-loop
 returns c =
     let a = c .before .before .before .before .before .before .before .before .before .before .before .before .before .before in
     let k = c .before .before .before .before .before .before .before .before .turn in
-    let off = not-true _ (c .if1 .taken) in
     let w = walked-more _ _ (a .loop .turns) (a .loop .turns - 1) (walk a) (a .loop .inv .5, k .ensures .1) (omega (arith, c .before .before .before .before .before .before .before .before .before .before .before .before .before .loop-test .taken)) in
+    let off = not-true _ (c .if1 .taken) in
     (k .ensures .0 .waits, record { earlier = w .earlier; standing = k .result; reached = w .reached; ended = λ on. absurd (never (sym on ∙ off)); waits-are = refl })
 
 loop-less : tie.Need-loop-less Inv-loop μ-loop
