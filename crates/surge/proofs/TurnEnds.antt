@@ -16,6 +16,9 @@ use Rattle.listing.specs.Lines.{failedLine}
 use Rattle.listing.specs.Put.{afterPut, putOf, written}
 use Rattle.listing.proofs.Answer.{next-told}
 use Rattle.reader.specs.Storm.{recordSize, longestRecord}
+use Rattle.files.specs.declared.Filled.{Filled}
+use Rattle.files.specs.declared.Filled.the-variants as filled
+use Rattle.files.specs.Filled.{Refilled}
 use Rattle.files.proofs.Asks.{holds-not}
 use Rattle.hydrograph.specs.declared.Turn.{Turn}
 use Rattle.hydrograph.specs.declared.Turn.the-variants as turn
@@ -26,7 +29,7 @@ use Rattle.hydrograph.proofs.RecordRead.{turn-seen}
 use Rattle.hydrograph.proofs.Tells.{turn-moves}
 use Rattle.hydrograph.proofs.Tells as tells
 use Rattle.surge.specs.declared.Standing.{Standing}
-use Rattle.surge.specs.Standing.{PutsAt, Stands, standingWith, Memory, turnOn, Fails, ReadFrom, ReadBy, Moves, Moved}
+use Rattle.surge.specs.Standing.{PutsAt, Stands, standingWith, AfterRefill, Memory, turnOn, ReadFrom, ReadBy, Moves, Moved}
 
 -- a line that was put
 pub puts-next : (line : List ℕ) (used : ℕ) (out : List ℕ) (k : ℕ) (out′ : List ℕ) → afterPut (Next k) out′ ≡ putOf line used out → PutsAt line used out k out′
@@ -111,8 +114,11 @@ module _ (t : Traverse) (a : Memory) (x : Turned) (numbers′ rows′ : List ℤ
 pub on-same : (x : Standing) (run : Run) (used : ℕ) (on : Bool) (y : Standing) → y ≡ standingWith x run used on → y ≡ standingWith x run used (y .on)
 on-same x run used on y e = e ∙ ap (standingWith x run used) (sym (ap (λ (z : Standing). z .on) e))
 
-pub read-failed : (run : Run) (x y : Standing) (a b out out′ : List ℕ) → Fails run x y a b out out′ → ReadFrom run x y a b out out′
-read-failed run x y a b out out′ f = subst (λ (on : Bool). ReadBy on run x y a b out out′) (sym (ap (λ (z : Standing). z .on) (f .same))) f
+-- what was read, from the refill's answer
+pub read-by : (answer : Filled) (run : Run) (x y : Standing) (a b out out′ : List ℕ) → Refilled answer a b (run .cursor .at) (x .have) → AfterRefill answer run x y out out′ → ReadFrom run x y a b out out′
+read-by (filled.Holds n last) run x y a b out out′ h k = subst (λ (z : Standing). ReadFrom run x z a b out out′) (sym (k .0)) (record { same = refl; waits = refl; window = h }, k .1)
+read-by filled.Failed run x y a b out out′ h k =
+    subst (λ (on : Bool). ReadBy on run x y a b out out′) (sym (ap (λ (z : Standing). z .on) (k .0))) (record { same = k .0; window = h; line = k .1 })
 
 pub stands-with : (x : Standing) (run : Run) (k : ℕ) (on : Bool) (y : Standing) (window room : ℕ) → y ≡ standingWith x run k on → run .cursor .at ≤ x .have → x .have ≤ window → k ≤ room → Stands y window room
 stands-with x run k on y window room e p h w = subst (λ (z : Standing). Stands z window room) (sym e) (record { place = p; held = h; waits = w })

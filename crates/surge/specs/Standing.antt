@@ -10,6 +10,10 @@ use Rattle.listing.specs.Lines.{failedLine}
 use Rattle.listing.specs.Put.{written}
 use Rattle.reader.specs.Traverse.{noPoints}
 use Rattle.reader.specs.Storm.{recordSize, longestRecord}
+use Rattle.files.specs.declared.Filled.{Filled}
+use Rattle.files.specs.declared.Filled.the-variants as filled
+use Rattle.files.specs.declared.Flushed.{Flushed}
+use Rattle.files.specs.declared.Flushed.the-variants as flushed
 use Rattle.files.specs.Filled.{InFront, Held}
 use Rattle.hydrograph.specs.declared.Run.{Run}
 use Rattle.hydrograph.specs.declared.Turn.{Turn}
@@ -62,6 +66,17 @@ frontOf run = record { cursor = record { at = 0; line = run .cursor .line }; sta
 -- the window as it is, with another run, so many bytes waiting, and whether it goes on
 abbrev pub standingWith : Standing → Run → ℕ → Bool → Standing
 standingWith x run used on = record { run = run; have = x .have; last = x .last; used = used; on = on }
+
+-- what a refill's answer makes of it, and of the output: the run is at the window's front and goes on; or, where the read failed, the line that says
+-- so waits behind the others and no more comes
+abbrev pub AfterRefill : Filled → Run → Standing → Standing → List ℕ → List ℕ → Type 0
+AfterRefill (filled.Holds n last) run x y out out′ = (y ≡ record { run = frontOf run; have = n; last = last; used = x .used; on = true }) × (out′ ≡ out)
+AfterRefill filled.Failed run x y out out′ = (y ≡ standingWith x run (x .used + length failedLine) false) × (out′ ≡ written failedLine (x .used) out)
+
+-- whether a write went out, and the program goes on
+abbrev pub wentOut : Flushed → Bool
+wentOut (flushed.Wrote n) = true
+wentOut flushed.Failed = false
 
 -- the program's memory between two turns: how it stands, the window's bytes, the numbers of a record, the rows, and the output's bytes
 pub record Memory : Type 0 where

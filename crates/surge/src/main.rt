@@ -21,8 +21,8 @@ ghost use Rattle.listing.specs.Lines.{failedLine};
 ghost use Rattle.reader.specs.Storm.{recordSize, longestRecord};
 ghost use Rattle.hydrograph.specs.Listing.{refusalLine};
 ghost use Rattle.hydrograph.specs.Turns.{lineRoom};
-ghost use Rattle.files.specs.Filled.{Refills};
-ghost use Rattle.surge.specs.Standing.{Lent, PutsAt, Stands, Starts, frontOf, standingWith, ReadFrom, memory, Moved};
+ghost use Rattle.files.specs.Filled.{Refills, Flushes};
+ghost use Rattle.surge.specs.Standing.{Lent, PutsAt, Stands, Starts, frontOf, standingWith, AfterRefill, ReadFrom, wentOut, memory, Moved};
 ghost use Rattle.surge.specs.Printed.{Marches, MarchesSome, Prints, Runs};
 
 // How the program stands between two turns: the run, whose cursor is in the window; how many bytes of the window hold text, and whether the
@@ -89,13 +89,12 @@ fn waiting(x: Standing, run: Run, used: usize, on: bool) -> Standing
     }
 }
 
-// More of the storm, where the window does not hold what comes next.
-fn refilled(fd: i32, buf: &mut [u8], x: Standing, run: Run, out: &mut [u8]) -> Standing
-    requires { ⌜ Refills (run .cursor .at) (x .have) (length (now buf)) × (x .used + lineRoom ≤ length (now out)) ⌝ }
-    ensures { λ r. ⌜ ReadFrom run x r (now (buf .entry)) (now (buf .exit)) (now (out .entry)) (now (out .exit)) ⌝ }
+// After a refill the cursor is at the window's front; where the read failed, the line that says so waits behind the others and no more comes.
+fn after_refill(x: Standing, run: Run, answer: Filled, out: &mut [u8]) -> Standing
+    requires { ⌜ x .used + lineRoom ≤ length (now out) ⌝ }
+    ensures { λ r. ⌜ AfterRefill answer run x r (now (out .entry)) (now (out .exit)) ⌝ }
 {
-    let cursor = run.cursor;
-    match files::refill(fd, buf, cursor.at, x.have) {
+    match answer {
         Filled::Failed => {
             os::fail(b"storm.txt");
             let used = put_failed(out, x.used);
@@ -111,16 +110,34 @@ fn refilled(fd: i32, buf: &mut [u8], x: Standing, run: Run, out: &mut [u8]) -> S
     }
 }
 
+// More of the storm, where the window does not hold what comes next.
+fn refilled(fd: i32, buf: &mut [u8], x: Standing, run: Run, out: &mut [u8]) -> Standing
+    requires { ⌜ Refills (run .cursor .at) (x .have) (length (now buf)) × (x .used + lineRoom ≤ length (now out)) ⌝ }
+    ensures { λ r. ⌜ ReadFrom run x r (now (buf .entry)) (now (buf .exit)) (now (out .entry)) (now (out .exit)) ⌝ }
+{
+    let cursor = run.cursor;
+    let answer = files::refill(fd, buf, cursor.at, x.have);
+    after_refill(x, run, answer, out)
+}
+
+// Nothing waits after a write of what waited; where it failed, no more comes.
+fn after_write(x: Standing, run: Run, answer: Flushed) -> Standing
+    requires { ⌜ Flushes answer (x .used) ⌝ }
+    ensures { λ r. ⌜ r ≡ standingWith x run 0 (wentOut answer) ⌝ }
+{
+    match answer {
+        Flushed::Failed => waiting(x, run, 0, false),
+        Flushed::Wrote(n) => waiting(x, run, x.used - n, true),
+    }
+}
+
 // What waits is written, and the turn is made again with the whole buffer.
 fn emptied(out: &[u8], x: Standing, run: Run) -> Standing
     requires { ⌜ x .used ≤ length (now out) ⌝ }
     ensures { λ r. ⌜ r ≡ standingWith x run 0 (r .on) ⌝ }
 {
-    let used = x.used;
-    match files::flush(out, used) {
-        Flushed::Failed => waiting(x, run, 0, false),
-        Flushed::Wrote(n) => waiting(x, run, used - n, true),
-    }
+    let answer = files::flush(out, x.used);
+    after_write(x, run, answer)
 }
 
 // One turn, and what it asks for.
