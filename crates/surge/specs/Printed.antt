@@ -1,7 +1,6 @@
 -- The program turn after turn, and what it prints. No contract says what the system reads or writes, so what was read is whatever the refills brought
--- into the window, and what is printed is what was handed over to `flush`. Everything else of a run is said here: the turns one
--- after another (`Reached`), the storm (`Marches`), a traverse that was read (`Prints`), and the run (`Runs`, the promise of `surge::run`). Assumes
--- nothing.
+-- into the window, and what is printed is what was handed over to `flush`. Everything else of a run is said here: the turns one after another
+-- (`Reached`), the storm (`Marches`), a traverse that was read (`Prints`), and the run (`Runs`, the promise of `surge::run`). Assumes nothing.
 use mathlib.Core.Path.{_≡_}
 use mathlib.Core.Bool.{Bool, true, false, cond}
 use mathlib.Core.List.{List, [], _∷_, _++_}
