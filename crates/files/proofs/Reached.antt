@@ -1,7 +1,7 @@
 -- Reading a traverse file step by step: what the loop keeps, what it comes to, and that its answer is that of the text that was read, and of every
 -- text that goes on from it where its end was not seen. Assumes nothing.
 use mathlib.Core.Path.{_≡_, refl, sym, ap, subst, _∙_}
-use mathlib.Core.Bool.{Bool, true, false}
+use mathlib.Core.Bool.{Bool, false}
 use mathlib.Core.List.{List, [], _∷_, _++_, append-assoc}
 use native.Mathlib.Omega.{arith}
 use Prim.Native.Nat.{ℕ, _+_, _-_, _≤_}

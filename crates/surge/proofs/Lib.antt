@@ -2,4 +2,5 @@
 pub mod Begun
 pub mod TurnEnds
 pub mod Turns
+pub mod TurnsEnd
 pub mod Listing

@@ -38,7 +38,7 @@ use Rattle.files.specs.TraverseFile as files
 use Rattle.files.proofs.PointsRead.{loads-has}
 use Rattle.files.proofs.Reached.{file-tells}
 use Rattle.hydrograph.specs.Listing.{refusalLine, stormLines, afterOpening, afterTraverse, listingOf}
-use Rattle.hydrograph.specs.Turns.{Begins, LeftTurn, lineRoom}
+use Rattle.hydrograph.specs.Turns.{LeftTurn, lineRoom}
 use Rattle.surge.specs.Standing.{noRows, Memory, memory}
 use Rattle.surge.specs.Printed.{textRead, handedOn, begunAt, MarchesSome, beginOn, AfterBegin, traverseIn, rowsIn, AfterFile}
 use Rattle.surge.specs.Listing.{How, whole, read-failed, cut-short, PrintedOf, howMarched, cameAfter, cameFrom, RunPrints}

@@ -301,7 +301,7 @@ module _ (t : Traverse) (a : Memory) (fresh : Fresh t a) where
         tells = λ e c. ap (λ (n : ℕ). take (a .standing .used) (a .out) ++ linesFrom e t (0 + a .standing .run .cursor .at) n (a .standing .run .state) (a .rows)) (sym (fresh .line));
       }
 
-  told-at : (earlier : List Memory) (b : Memory) → Reached t a earlier b → b .standing .on ≡ true → Told t a b (textRead t earlier b) (handedOn t earlier)
+  pub told-at : (earlier : List Memory) (b : Memory) → Reached t a earlier b → b .standing .on ≡ true → Told t a b (textRead t earlier b) (handedOn t earlier)
   unfolding Chain textRead handedOn
   told-at [] b q on = subst (λ (v : Memory). Told t a v [] []) (sym q) told-first
   told-at (w ∷ earlier) b q on =

@@ -5,12 +5,13 @@
 use mathlib.Core.Path.{_≡_}
 use mathlib.Core.Bool.{Bool, true, false}
 use mathlib.Core.List.{List, [], _∷_, _++_}
-use Prim.Native.Nat.{ℕ, _≤_}
+use Prim.Native.Nat.{ℕ, _<_, _≤_, _^_}
 use lib.ListN.{length, take}
 use lib.IntN.{ℤ}
 use Rattle.records.specs.Shapes.{Traverse, count}
 use Rattle.listing.specs.Lines.{failedLine}
 use Rattle.reader.specs.Storm.{recordSize, stormOf}
+use Rattle.files.specs.Chain.{mostTurns}
 use Rattle.files.specs.declared.Flushed.{Flushed}
 use Rattle.files.specs.declared.Loaded.{Loaded}
 use Rattle.files.specs.declared.Loaded.the-variants as loaded
@@ -74,6 +75,12 @@ abbrev pub TurnsTell : Type 0
 TurnsTell =
     (t : Traverse) (a : Memory) → Fresh t a → (earlier : List Memory) (b : Memory) → Reached t a earlier b → (e : List ℕ) → Continues (b .standing .last) e
     → PrintedOf (howMarched t earlier b) (handedOn t earlier ++ take (b .standing .used) (b .out)) (marchedLines t a (textRead t earlier b ++ e))
+
+-- and they come to their end: no more of them are made than the text read has bytes, four times over, so that no storm below 2⁵³ bytes uses up 2⁵⁶
+abbrev pub TurnsEnd : Type 0
+TurnsEnd =
+    (t : Traverse) (a : Memory) → Fresh t a → (earlier : List Memory) (b : Memory) → Reached t a earlier b → length (textRead t earlier b) < 2 ^ 53
+    → length earlier ≡ mostTurns → b .standing .on ≡ false
 
 -- ---- a run
 
