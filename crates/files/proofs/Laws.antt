@@ -1,4 +1,5 @@
--- What a turn of `shift` does, what stands before a part of a slice that was lent, and what a read's answer makes of a window. Assumes nothing.
+-- What a turn of `shift` does, what stands before a part of a slice that was lent, what a read's answer makes of a window,
+-- and when it was interrupted. Assumes nothing.
 use mathlib.Core.Path.{_≡_, refl, sym, _∙_}
 use mathlib.Core.Bool.{Bool, true, false}
 use mathlib.Core.List.{List}
@@ -6,18 +7,18 @@ use Prim.Native.Nat.{ℕ, _+_, _-_, _<_, _≤_}
 use native.Mathlib.Omega.{arith}
 use lib.Dec.{eqb, T}
 use lib.IntN.{ℤ, pos, negsuc, natAbs}
-use lib.Signed.{ltZ, nonNeg}
-use mir.Syntax.{w64}
-use mir.Val.{Fits, SFits}
+use lib.Signed.{ltZ, leZ, nonNeg}
+use mir.Syntax.{w32, w64}
+use mir.Val.{Fits, SFits, ofZ}
 use lib.ListN.{length, getD, set, length-set, take, length-append, List·getD-append}
 use lib.Seq.{getD-set-same, getD-set-other, getD-take, length-take-le}
 use borrow.Rule.Slice.PartMut.{putMid}
 use borrow.Author.Count.{below-more}
-use borrow.Author.Tests.{eqb-true, eqb-false, eq-eqb, ne-eqb, ltb-true}
+use borrow.Author.Tests.{eqb-true, eqb-false, eq-eqb, ne-eqb, ltb-true, leb-false}
 use Rattle.reader.specs.Text.{byte}
 use Rattle.libc.specs.Io.{Moved}
 use Rattle.files.specs.declared.Filled.the-variants.{Holds, Failed}
-use Rattle.files.specs.Filled.{InFront, Refilled, afterRead}
+use Rattle.files.specs.Filled.{InFront, interruptedBy, Refilled, afterRead}
 
 -- the first i bytes are those from at on, and the others are as they were
 pub record Shifted (a b : List ℕ) (at i : ℕ) : Type 0 where
@@ -77,3 +78,15 @@ moved-most n (negsuc k) m h = omega (arith, m)
 pub refilled-by : (z : ℤ) (n : ℕ) → Moved n z → (a b : List ℕ) (at have rest : ℕ) → rest ≡ have - at → rest + n ≤ length b → InFront a b at have → Refilled (afterRead z rest) a b at have
 refilled-by (pos k) n m a b at have rest e l f = record { within = omega (arith, m); least = omega arith; left = f; ended = none-read k rest (have - at) e }
 refilled-by (negsuc k) n m a b at have rest e l f = f
+
+-- ---- an interrupted read
+
+pub not-interrupted : (z error : ℤ) → leZ (pos 0) z ≡ true → false ≡ interruptedBy z error
+not-interrupted (pos n) error e = refl
+not-interrupted (negsuc n) error e = let y : _≡_ {A = ℕ} 0 1 = cc in absurd (omega arith)
+
+-- EINTR is 4
+pub interrupted-is : (z error : ℤ) → SFits w32 error → leZ (pos 0) z ≡ false → eqb (ofZ w32 error) 4 ≡ interruptedBy z error
+interrupted-is (pos n) error f e = absurd (omega (arith, leb-false 0 n e))
+interrupted-is (negsuc n) (pos k) f e = refl
+interrupted-is (negsuc n) (negsuc k) f e = let x = f .sfits in ne-eqb (ofZ w32 (negsuc k)) 4 (λ q. omega arith)

@@ -1,7 +1,7 @@
 -- When a window may be refilled, and what it then holds: the bytes that were left of it at its front, and no more than it has room for; and when
 -- the text counts as ended. And what writing the output answers. Assumes nothing.
 use mathlib.Core.Path.{_≡_}
-use mathlib.Core.Bool.{Bool}
+use mathlib.Core.Bool.{Bool, false}
 use mathlib.Core.List.{List}
 use Prim.Native.Nat.{ℕ, _+_, _-_, _<_, _≤_}
 use lib.Dec.{eqb}
@@ -29,6 +29,12 @@ pub record Held (a b : List ℕ) (at have n : ℕ) (last : Bool) : Type 0 where
   pub least : have - at ≤ n
   pub left : InFront a b at have
   pub ended : last ≡ eqb n (have - at)
+
+-- a read failed because it was interrupted: its answer is negative, and errno is EINTR
+abbrev pub interruptedBy : ℤ → ℤ → Bool
+interruptedBy (pos n) error = false
+interruptedBy (negsuc n) (pos k) = eqb k 4
+interruptedBy (negsuc n) (negsuc k) = false
 
 -- what a read's answer, a count of bytes or a negative number, makes of a window of which so many bytes were left
 abbrev pub afterRead : ℤ → ℕ → Filled

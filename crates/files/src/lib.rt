@@ -14,7 +14,7 @@ ghost use lib.IntN.{natAbs};
 ghost use lib.ListN.{length};
 ghost use Rattle.reader.specs.Text.{byte};
 ghost use Rattle.libc.specs.Io.{Moved};
-ghost use Rattle.files.specs.Filled.{Refills, afterRead, Refilled, Flushes};
+ghost use Rattle.files.specs.Filled.{Refills, interruptedBy, afterRead, Refilled, Flushes};
 ghost use Rattle.files.specs.TraverseFile.{fileOf, Loads, LoadsSome};
 
 // ---- windows
@@ -39,22 +39,31 @@ fn shift(buf: &mut [u8], at: usize, have: usize) -> usize
     rest
 }
 
-// One read, made again where a signal interrupted it before a byte came. That is no failure; the tries are counted down all the same.
+// Whether a read was interrupted by a signal before a byte came, from its answer and errno. That is no failure.
+fn interrupted(got: isize, error: i32) -> bool
+    ensures { λ r. ⌜ r ≡ interruptedBy got error ⌝ }
+{
+    if got >= 0 {
+        return false;
+    }
+    error == libc::EINTR
+}
+
+// One read, made again where it was interrupted; the tries are counted down all the same.
 fn read_through(fd: i32, buf: &mut [u8]) -> isize
     ensures { λ r. ⌜ Moved (length (now (buf .entry))) r ⌝ }
 {
+    let mut got = libc::read(fd, buf);
     let mut tries: u64 = 0x100_0000_0000_0000;
     while tries > 0 {
+        let error = os::errno();
+        if !interrupted(got, error) {
+            return got;
+        }
         tries -= 1;
-        let got = libc::read(fd, buf);
-        if got >= 0 {
-            return got;
-        }
-        if os::errno() != libc::EINTR {
-            return got;
-        }
+        got = libc::read(fd, buf);
     }
-    -1
+    got
 }
 
 // How a window stands after a read that answered so, where `rest` bytes were left of it: a read of no bytes is the file's end.

@@ -1,53 +1,66 @@
--- `files::read_through` meets its contract. Invariant: the slice has its length; the tries fall. Assumes nothing.
-use borrow.Author.Needs.{needs}
-use mathlib.Core.Path.{_≡_, subst}
+-- `files::read_through` meets its contract. Invariant: the slice has its length, and the last read's answer is one that a read may give; the tries
+-- fall. Assumes nothing.
+use mathlib.Core.Path.{_≡_, refl, sym, subst, _∙_}
 use Prim.Native.Nat.{ℕ}
-use Rattle.libc.specs.Io.{Moved}
 use lib.ListN.{length}
+use mir.Syntax.{w64}
+use mir.Val.{toZ}
+use mir.ValLaws.{toZ-ofZ}
+use Rattle.libc.specs.Io.{Moved}
+use borrow.Author.Needs.{needs, sfits-of}
 use Rattle.files.proofs.read_through.Statement.{statement}
 use Rattle.files.proofs.read_through.Tie as tie
 
 abbrev Inv-loop : tie.InvT-loop
-Inv-loop fd buf₀ tries₀ buf tries = length buf ≡ length buf₀
+Inv-loop fd buf₀ got₀ tries₀ buf got tries = (length buf ≡ length buf₀) × Moved (length buf₀) (toZ w64 got)
 
 abbrev μ-loop : tie.MeasureT-loop
-μ-loop fd buf₀ tries₀ buf tries = tries
-
-loop-holds : tie.Need-loop-holds Inv-loop μ-loop
-loop-holds c = search needs
-
-sub-tries : tie.Need-sub-tries Inv-loop μ-loop
-sub-tries c = search needs
+μ-loop fd buf₀ got₀ tries₀ buf got tries = tries
 
 read-requires : tie.Need-read-requires Inv-loop μ-loop
 read-requires c κs = search needs
+
+loop-holds : tie.Need-loop-holds Inv-loop μ-loop
+loop-holds c =
+    let r = c .before .before .read in
+    (refl, rw (toZ-ofZ w64 _ (sfits-of (r .ok))) (subst (λ (n : ℕ). Moved n (r .result)) (sym (r .kept .1 .0)) (r .ensures)))
+
+errno-requires : tie.Need-errno-requires Inv-loop μ-loop
+errno-requires c κs = search needs
+
+interrupted-requires : tie.Need-interrupted-requires Inv-loop μ-loop
+interrupted-requires c κs = search needs
 
 same-length : tie.Need-same-length Inv-loop μ-loop
 same-length c = search needs
 
 returns : tie.Need-returns Inv-loop μ-loop
-returns c = let m = subst (λ (n : ℕ). Moved n (c .before .before .before .read .result)) (c .before .before .before .before .before .before .loop .inv) (c .before .before .before .read .ensures) in search needs
+returns c =
+    let a = c .before .before .before .before in
+    subst (λ (n : ℕ). Moved n (toZ w64 (a .loop .got))) (a .before .before .before .read .kept .1 .0) (a .loop .inv .1)
 
-errno-requires : tie.Need-errno-requires Inv-loop μ-loop
-errno-requires c κs = search needs
+sub-tries : tie.Need-sub-tries Inv-loop μ-loop
+sub-tries c = search needs
 
-same-length-2 : tie.Need-same-length-2 Inv-loop μ-loop
-same-length-2 c = search needs
-
-returns-2 : tie.Need-returns-2 Inv-loop μ-loop
-returns-2 c = let m = subst (λ (n : ℕ). Moved n (c .before .before .before .before .before .read .result)) (c .before .before .before .before .before .before .before .before .loop .inv) (c .before .before .before .before .before .read .ensures) in search needs
+read-requires-2 : tie.Need-read-requires-2 Inv-loop μ-loop
+read-requires-2 c κs = search needs
 
 loop-less : tie.Need-loop-less Inv-loop μ-loop
 loop-less c = search needs
 
 loop-again : tie.Need-loop-again Inv-loop μ-loop
-loop-again c = search needs
+loop-again c =
+    let r = c .before .before .read2 in
+    let a = c .before .before .before .before .before .before .before .before in
+    (r .kept .1 .0 ∙ a .loop .inv .0, rw (toZ-ofZ w64 _ (sfits-of (r .ok))) (subst (λ (n : ℕ). Moved n (r .result)) (a .loop .inv .0) (r .ensures)))
 
-same-length-3 : tie.Need-same-length-3 Inv-loop μ-loop
-same-length-3 c = search needs
+same-length-2 : tie.Need-same-length-2 Inv-loop μ-loop
+same-length-2 c = search needs
 
-returns-3 : tie.Need-returns-3 Inv-loop μ-loop
-returns-3 c = search needs
+returns-2 : tie.Need-returns-2 Inv-loop μ-loop
+returns-2 c =
+    let a = c .before in
+    subst (λ (n : ℕ). Moved n (toZ w64 (a .loop .got))) (a .before .before .before .read .kept .1 .0) (a .loop .inv .1)
 
 pub read-through-spec : {M : Type 1} → statement M
 read-through-spec =
@@ -55,15 +68,15 @@ read-through-spec =
     (tie.spec
     Inv-loop
     μ-loop
-    loop-holds
-    sub-tries
     read-requires
+    loop-holds
+    errno-requires
+    interrupted-requires
     same-length
     returns
-    errno-requires
-    same-length-2
-    returns-2
+    sub-tries
+    read-requires-2
     loop-less
     loop-again
-    same-length-3
-    returns-3)
+    same-length-2
+    returns-2)
