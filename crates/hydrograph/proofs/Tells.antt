@@ -1,5 +1,5 @@
--- One turn on any window of a storm text says the lines that come next, and where it goes on, it stands within the window with some line counted:
--- the statements on one turn of `specs/Turns.antt`. And a turn that does not ask for more takes the reading on. Assumes nothing.
+-- One turn on any window of a storm text says the lines that come next (`TurnTells` of `specs/Turns.antt`); and where it goes on, it stands within the
+-- window with some line counted, and has taken the reading on unless it asks for more. Assumes nothing.
 use mathlib.Core.Path.{_≡_, refl, sym, ap, _∙_}
 use mathlib.Core.Bool.{Bool, true, false, cond}
 use mathlib.Core.List.{List, [], _++_}
@@ -28,7 +28,7 @@ use Rattle.march.specs.declared.State.{State}
 use Rattle.march.specs.Answers.{Told}
 use Rattle.march.specs.Answers as answers
 use Rattle.hydrograph.specs.Listing.{afterTaken, takenBy, hydrographLines, stormLines}
-use Rattle.hydrograph.specs.Turns.{Said, reads, says, ends, quiet, saidTaken, saidSeen, saidStart, startTurn, recordTurn, turnOf, linesFrom, saidThen, GoesOn, TurnTells, TurnGoesOn}
+use Rattle.hydrograph.specs.Turns.{Said, reads, says, ends, quiet, saidTaken, saidSeen, saidStart, startTurn, recordTurn, turnOf, linesFrom, saidThen, TurnTells}
 use Rattle.hydrograph.proofs.TurnLaws.{turn-start, turn-record}
 
 -- ---- a line that was read is counted, so reading has not to begin again
@@ -210,13 +210,3 @@ module _ (w : List ℕ) (last : Bool) (at : ℕ) where
 pub turn-moves : (w : List ℕ) (last : Bool) (t : Traverse) (at line : ℕ) (st : State) (rows : List ℤ) → Moves (length w) last at line (turnOf t w last at line st rows)
 turn-moves w last t at zero st rows = rw (turn-start t w last at 0 st rows refl) (start-moves w last at)
 turn-moves w last t at (suc line) st rows = rw (turn-record t w last at (suc line) st rows (λ e. omega arith)) (record-moves w last at t (suc line) st rows (omega arith))
-
-pub turn-goes-on : TurnGoesOn
-turn-goes-on w last t at line st rows h = go (turnOf t w last at line st rows) (turn-moves w last t at line st rows)
-  where
-    go : (x : Said) → Moves (length w) last at line x → GoesOn (length w) x
-    go Said.more m = tt
-    go (reads a l) m = m .1
-    go (says bytes a l st′ rows′) m = (m .1 .0, m .1 .1 .1)
-    go (ends bytes) m = tt
-    go quiet m = tt

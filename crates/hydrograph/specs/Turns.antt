@@ -96,17 +96,6 @@ TurnTells =
     (s w : List ℕ) (t : Traverse) (o : ℕ) (last : Bool) → Shows s w o last → (at line : ℕ) (st : State) (rows : List ℤ) → at ≤ length w → (line ≡ 0 → o ≡ 0)
     → saidThen s t o at line st rows (turnOf t w last at line st rows) ≡ linesFrom s t (o + at) line st rows
 
--- where a turn on a window of so many bytes goes on, some line was counted and the place is within the window
-abbrev pub GoesOn : ℕ → Said → Type 0
-GoesOn size more = Unit {0}
-GoesOn size (reads a l) = (0 < l) × (a ≤ size)
-GoesOn size (says bytes a l st rows) = (0 < l) × (a ≤ size)
-GoesOn size (ends bytes) = Unit {0}
-GoesOn size quiet = Unit {0}
-
-abbrev pub TurnGoesOn : Type 0
-TurnGoesOn = (w : List ℕ) (last : Bool) (t : Traverse) (at line : ℕ) (st : State) (rows : List ℤ) → at ≤ length w → GoesOn (length w) (turnOf t w last at line st rows)
-
 -- ---- the same by the numbers that a record is read into: they are the record where there is room for it (`proofs/RecordRead.antt`, `turn-seen`)
 
 abbrev pub saidStep : RecordStep → List ℤ → Traverse → State → List ℤ → Said
