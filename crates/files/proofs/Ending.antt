@@ -11,7 +11,7 @@ use lib.Seq.{length-take-le, getD-take, getD-drop, drop-append-add}
 use borrow.Author.Tests.{eqb-true, ltb-true, ltb-false}
 use Rattle.reader.specs.Text.{byte}
 use Rattle.reader.specs.Window.{Shows}
-use Rattle.files.specs.Filled.{Held, readBehind}
+use Rattle.files.specs.Filled.{HeldWindow, readBehind}
 use Rattle.files.specs.TraverseFile.{Continues}
 
 -- the first `have` bytes of the window are those of s from o on, to its end
@@ -34,7 +34,7 @@ behind s l i h =
     drop-seam : (s l : List ℕ) → drop (length s) (s ++ l) ≡ l
     drop-seam s l = let e : length s + 0 ≡ length s = omega arith in subst (λ (k : ℕ). drop k (s ++ l) ≡ l) e (drop-append-add s l 0)
 
-module _ (s a b : List ℕ) (o at have n : ℕ) (last : Bool) (f : Ending s a o have) (p : at ≤ have) (h : Held a b at have n last) where
+module _ (s a b : List ℕ) (o at have n : ℕ) (last : Bool) (f : Ending s a o have) (p : at ≤ have) (h : HeldWindow a b at have n last) where
   abbrev pub got : List ℕ
   got = readBehind (have - at) n b
 

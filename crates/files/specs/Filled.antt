@@ -24,16 +24,20 @@ abbrev pub InFront : List ℕ → List ℕ → ℕ → ℕ → Type 0
 InFront a b at have = (j : ℕ) → j < have - at → byte b j ≡ byte a (at + j)
 
 -- n bytes of the window b hold text, and `last` says whether the text ends with them: it does where the read gave no byte, and only there
-pub record Held (a b : List ℕ) (at have n : ℕ) (last : Bool) : Type 0 where
+pub record HeldWindow (a b : List ℕ) (at have n : ℕ) (last : Bool) : Type 0 where
   pub within : n ≤ length b
   pub least : have - at ≤ n
   pub left : InFront a b at have
   pub ended : last ≡ eqb n (have - at)
 
--- a read failed because it was interrupted: its answer is negative, and errno is EINTR
+-- the system's errno of a call that a signal interrupted (EINTR)
+abbrev pub interruption : ℕ
+interruption = 4
+
+-- a read failed because it was interrupted: its answer is negative, and errno says so
 abbrev pub interruptedBy : ℤ → ℤ → Bool
 interruptedBy (pos n) error = false
-interruptedBy (negsuc n) (pos k) = eqb k 4
+interruptedBy (negsuc n) (pos k) = eqb k interruption
 interruptedBy (negsuc n) (negsuc k) = false
 
 -- what a read's answer, a count of bytes or a negative number, makes of a window of which so many bytes were left
@@ -43,7 +47,7 @@ afterRead (negsuc n) rest = Failed
 
 -- b is the window after, a the one before, of which the bytes from `at` up to `have` were left. They are at its front though the read failed
 abbrev pub Refilled : Filled → List ℕ → List ℕ → ℕ → ℕ → Type 0
-Refilled (Holds n last) a b at have = Held a b at have n last
+Refilled (Holds n last) a b at have = HeldWindow a b at have n last
 Refilled Failed a b at have = InFront a b at have
 
 -- the bytes that were read into the window b, of which n hold text and so many were left before

@@ -8,6 +8,7 @@ use Prim.Native.Nat.{ℕ, _-_, _*_, _≤_}
 use lib.ListN.{take}
 use lib.IntN.{ℤ, pos}
 use lib.Signed.{ltZ}
+use Rattle.records.specs.Limits.{mostPoints}
 use Rattle.reader.specs.declared.traverse.Known.{Known}
 use Rattle.reader.specs.declared.traverse.Progress.{Progress}
 use Rattle.reader.specs.declared.traverse.Progress.the-variants as progress
@@ -117,6 +118,6 @@ FileTells =
 
 -- a traverse that was read has 2 to 65 points, and all of them have their place in so many numbers
 abbrev pub HasPoints : Loaded → ℕ → ℕ → Type 0
-HasPoints Read count size = (2 ≤ count) × (2 * count ≤ size) × (count ≤ 65)
+HasPoints Read count size = (2 ≤ count) × (2 * count ≤ size) × (count ≤ mostPoints)
 HasPoints (Refused refusal) count size = Unit {0}
 HasPoints Failed count size = Unit {0}

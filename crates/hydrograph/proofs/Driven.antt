@@ -23,7 +23,7 @@ use Rattle.march.specs.Demand3.{freshRows}
 use Rattle.march.specs.Answers.{ToldOpen, opened, notOpened}
 use Rattle.hydrograph.specs.Listing.{stormLines, afterOpening, afterTraverse, listingOf}
 use Rattle.hydrograph.specs.Turns.{Said, more, reads, says, ends, quiet, turnOf, linesFrom, saidThen, Driven, also, driveOn, driveFrom, saidOpen, beginOf, afterOpened, readTraverse, afterWhole, afterRun, driveAll, StormBegins, StormDriven, StormEnds, ListingBegins, ListingDriven, ListingEnds, ListingWhole}
-use Rattle.hydrograph.proofs.Tells.{turn-at, Moves, turn-moves}
+use Rattle.hydrograph.proofs.Tells.{turn-at, Advances, turn-advances}
 
 -- ---- what was said begins the lines, is all of them once it is finished, and is finished on a condition
 
@@ -65,7 +65,7 @@ module _ (s : List ℕ) (t : Traverse) where
   from-place (c ∷ cuts) at line k st rows h z i =
       subst (Drives (length s + 1 < at + k + enough longestRecord (c ∷ cuts)) (driveOn (turnOf t w last (at - o) line st rows) o at line st rows (driveFrom s t cuts)))
       (turn-at s w t o last (shows-cut s c at h) (at - o) line st rows (omega arith) (λ e. omega (arith, z e)) ∙ ap (λ (a : ℕ). linesFrom s t a line st rows) (back s c at h))
-      (go (turnOf t w last (at - o) line st rows) (turn-moves w last t (at - o) line st rows) (from-place cuts))
+      (go (turnOf t w last (at - o) line st rows) (turn-advances w last t (at - o) line st rows) (from-place cuts))
     where
       o : ℕ
       o = fromOf c at
@@ -82,7 +82,7 @@ module _ (s : List ℕ) (t : Traverse) where
       most : enough longestRecord (c ∷ cuts) ≤ suc (enough longestRecord cuts)
       most = enough-most longestRecord c cuts
 
-      go : (x : Said) → Moves (length w) last (at - o) line x → From cuts →
+      go : (x : Said) → Advances (length w) last (at - o) line x → From cuts →
           Drives (length s + 1 < at + k + enough longestRecord (c ∷ cuts)) (driveOn x o at line st rows (driveFrom s t cuts)) (saidThen s t o (at - o) line st rows x)
       go more m ih =
           rw (back s c at h)

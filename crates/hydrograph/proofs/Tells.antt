@@ -142,12 +142,12 @@ turn-tells s w t o last sh at line st rows h z = turn-at s w t o last sh at line
 -- ---- where a turn goes on
 
 -- more is asked for only where the window is not the last and ends within the 3,575 bytes that a record of 65 points can take; a record moves the place on
-abbrev pub Moves : ℕ → Bool → ℕ → ℕ → Said → Type 0
-Moves size last at line Said.more = holds size last at longestRecord ≡ false
-Moves size last at line (reads a l) = (line ≡ 0) × ((0 < l) × (a ≤ size))
-Moves size last at line (says bytes a l st rows) = (0 < line) × ((0 < l) × ((at < a) × (a ≤ size)))
-Moves size last at line (ends bytes) = Unit {0}
-Moves size last at line quiet = Unit {0}
+abbrev pub Advances : ℕ → Bool → ℕ → ℕ → Said → Type 0
+Advances size last at line Said.more = holds size last at longestRecord ≡ false
+Advances size last at line (reads a l) = (line ≡ 0) × ((0 < l) × (a ≤ size))
+Advances size last at line (says bytes a l st rows) = (0 < line) × ((0 < l) × ((at < a) × (a ≤ size)))
+Advances size last at line (ends bytes) = Unit {0}
+Advances size last at line quiet = Unit {0}
 
 -- what does not hold so many bytes does not hold more
 holds-fewer : (size : ℕ) (last : Bool) (at need at′ need′ : ℕ) → at + need ≤ at′ + need′ → holds size last at need ≡ false → holds size last at′ need′ ≡ false
@@ -169,24 +169,24 @@ next-within s n at line = go (leb at (length s)) refl
     go false e = unfold nextAt in rw (le-ltb at (length s) (omega (arith, leb-false at (length s) e))) (past (countOk mostPoints n) (ltb 1 line))
 
 module _ (w : List ℕ) (last : Bool) (at : ℕ) where
-  start-on : (r : Lines) → CountedLines r → Stays (length w) r → Moves (length w) last at 0 (saidStart (start-step.Answer r))
+  start-on : (r : Lines) → CountedLines r → Stays (length w) r → Advances (length w) last at 0 (saidStart (start-step.Answer r))
   start-on (Read d) k h = (refl, (k, h))
   start-on (Refused q) k h = tt
 
-  start-moves : Moves (length w) last at 0 (startTurn w last)
+  start-moves : Advances (length w) last at 0 (startTurn w last)
   unfolding startStep
   start-moves = go (holds (length w) last 0 32) refl
     where
-      go : (b : Bool) → holds (length w) last 0 32 ≡ b → Moves (length w) last at 0 (saidStart (cond b (start-step.Answer (stormStart w)) start-step.More))
+      go : (b : Bool) → holds (length w) last 0 32 ≡ b → Advances (length w) last at 0 (saidStart (cond b (start-step.Answer (stormStart w)) start-step.More))
       go true e = start-on (stormStart w) (start-counted w) (start-stays w)
       go false e = holds-fewer (length w) last 0 32 at longestRecord (omega arith) e
 
   module _ (t : Traverse) (line : ℕ) (st : State) (rows : List ℤ) (l : 0 < line) where
-    taken-on : (told : Told) (a k : ℕ) (st′ : State) (rows′ : List ℤ) → 0 < k → at < a → a ≤ length w → Moves (length w) last at line (saidTaken told a k st′ rows′)
+    taken-on : (told : Told) (a k : ℕ) (st′ : State) (rows′ : List ℤ) → 0 < k → at < a → a ≤ length w → Advances (length w) last at line (saidTaken told a k st′ rows′)
     taken-on (answers.accepted elapsed low high) a k st′ rows′ c h i = (l, (c, (h, i)))
     taken-on (answers.refused number place) a k st′ rows′ c h i = tt
 
-    record-on : (r : Outcome Further) → Counted r → Read-on (at + 1) (length w) r → Moves (length w) last at line (saidSeen (seen r) t st rows)
+    record-on : (r : Outcome Further) → Counted r → Read-on (at + 1) (length w) r → Advances (length w) last at line (saidSeen (seen r) t st rows)
     record-on (read (one r) a k) c h = taken-on (takenBy t r st rows .answer) a k (takenBy t r st rows .state) (takenBy t r st rows .rows) c (omega arith) (h .1)
     record-on (read none a k) c h = tt
     record-on (refused q) c h = tt
@@ -199,14 +199,14 @@ module _ (w : List ℕ) (last : Bool) (at : ℕ) where
         go true f e = let k = f refl in holds-fewer (length w) last at (count t * 55) at longestRecord (omega arith) e
         go false f e = let z : _≡_ {A = ℕ} 0 1 = cc in absurd (omega arith)
 
-    record-moves : Moves (length w) last at line (recordTurn t w last at line st rows)
+    record-moves : Advances (length w) last at line (recordTurn t w last at line st rows)
     unfolding recordStep
     record-moves = go (holdsRecord (length w) last (count t) at) refl
       where
-        go : (b : Bool) → holdsRecord (length w) last (count t) at ≡ b → Moves (length w) last at line (saidSeen (cond b (seen (nextAt w (count t) at line)) needs-more) t st rows)
+        go : (b : Bool) → holdsRecord (length w) last (count t) at ≡ b → Advances (length w) last at line (saidSeen (cond b (seen (nextAt w (count t) at line)) needs-more) t st rows)
         go true e = record-on (nextAt w (count t) at line) (next-counted w (count t) at line l) (next-within w (count t) at line)
         go false e = record-short e
 
-pub turn-moves : (w : List ℕ) (last : Bool) (t : Traverse) (at line : ℕ) (st : State) (rows : List ℤ) → Moves (length w) last at line (turnOf t w last at line st rows)
-turn-moves w last t at zero st rows = rw (turn-start t w last at 0 st rows refl) (start-moves w last at)
-turn-moves w last t at (suc line) st rows = rw (turn-record t w last at (suc line) st rows (λ e. omega arith)) (record-moves w last at t (suc line) st rows (omega arith))
+pub turn-advances : (w : List ℕ) (last : Bool) (t : Traverse) (at line : ℕ) (st : State) (rows : List ℤ) → Advances (length w) last at line (turnOf t w last at line st rows)
+turn-advances w last t at zero st rows = rw (turn-start t w last at 0 st rows refl) (start-moves w last at)
+turn-advances w last t at (suc line) st rows = rw (turn-record t w last at (suc line) st rows (λ e. omega arith)) (record-moves w last at t (suc line) st rows (omega arith))

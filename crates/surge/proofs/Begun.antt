@@ -22,7 +22,8 @@ use Rattle.hydrograph.specs.declared.Turn.{Turn}
 use Rattle.hydrograph.specs.declared.Turn.the-variants as turn
 use Rattle.hydrograph.specs.declared.Turned.{Turned}
 use Rattle.hydrograph.specs.Turns.{lineRoom, saidOpen, beginOf, LeftTurn, leftTurn, printed, turnLeft, freshRun}
-use Rattle.surge.specs.Printed.{MarchesSome, beginOn, AfterBegin, Prints, AfterFile, Runs}
+use Rattle.surge.specs.Standing.{wentOut}
+use Rattle.surge.specs.Printed.{MarchesSome, beginOn, AfterNames, AfterBegin, Prints, AfterFile, Runs}
 use Rattle.surge.proofs.TurnEnds.{written-within}
 
 module _ (t : Traverse) (out : List ℕ) (room : lineRoom ≤ length out) where
@@ -65,6 +66,11 @@ module _ (t : Traverse) (out : List ℕ) (room : lineRoom ≤ length out) where
 pub begun-told : (t : Traverse) (out : List ℕ) (x : Turned) (out′ : List ℕ) → leftTurn x [] [] out′ ≡ turnLeft (record { said = beginOf t []; numbers = [] }) freshRun [] [] out 0 → leftTurn x [] [] out′ ≡ beginOn t out
 unfolding beginOn
 begun-told t out x out′ e = e
+
+-- by what became of the names line, whose answer is known
+pub after-named : (t : Traverse) (window : List ℕ) (numbers rows : List ℤ) (waits : ℕ) (window′ : List ℕ) (numbers′ rows′ : List ℤ) (out′ : List ℕ) (answer known : Flushed) (run : Run) (out : List ℕ) → answer ≡ known
+    → AfterNames t window numbers rows waits window′ numbers′ rows′ out′ (wentOut known) run out → AfterNames t window numbers rows waits window′ numbers′ rows′ out′ (wentOut answer) run out
+after-named t window numbers rows waits window′ numbers′ rows′ out′ answer known run out e a = subst (λ (r : Flushed). AfterNames t window numbers rows waits window′ numbers′ rows′ out′ (wentOut r) run out) (sym e) a
 
 -- nothing waits, by any name
 pub from-nought : {t : Traverse} {run : Run} {used : ℕ} {window : List ℕ} {numbers rows : List ℤ} {out : List ℕ} {waits : ℕ} {window′ : List ℕ} {numbers′ rows′ : List ℤ} {out′ : List ℕ}

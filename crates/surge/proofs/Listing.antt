@@ -1,4 +1,4 @@
--- What a run printed is the listing of the texts that it read, by the turns (`turns-tell`) and by what reading the traverse came to (`file-tells` of
+-- What a run handed over to be written is the listing of the texts that it read, by the turns (`turns-tell`) and by what reading the traverse came to (`file-tells` of
 -- `files`). Assumes nothing.
 use mathlib.Core.Path.{_≡_, refl, sym, ap, subst, _∙_}
 use mathlib.Core.Bool.{Bool, true, false}

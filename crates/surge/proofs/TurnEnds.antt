@@ -26,8 +26,7 @@ use Rattle.hydrograph.specs.declared.Run.{Run}
 use Rattle.hydrograph.specs.declared.Turned.{Turned}
 use Rattle.hydrograph.specs.Turns.{Said, more, reads, says, ends, quiet, Heard, turnHeard, lineRoom, LeftTurn, leftTurn, printed, turnLeft}
 use Rattle.hydrograph.proofs.RecordRead.{turn-seen}
-use Rattle.hydrograph.proofs.Tells.{turn-moves}
-use Rattle.hydrograph.proofs.Tells as tells
+use Rattle.hydrograph.proofs.Tells.{Advances, turn-advances}
 use Rattle.surge.specs.declared.Standing.{Standing}
 use Rattle.surge.specs.Standing.{PutsAt, Stands, standingWith, AfterRefill, Memory, turnOn, ReadFrom, ReadBy, Moves, Moved}
 
@@ -57,7 +56,7 @@ written-within bytes used out h e =
     omega (arith, length-drop (used + length bytes) out)
 
 module _ (size used : ℕ) (last : Bool) (run : Run) (numbers rows : List ℤ) (out : List ℕ) (h : run .cursor .at ≤ size) (u : used ≤ length out) where
-  printed-ends : (numbers′ : List ℤ) (x : Said) → tells.Moves size last (run .cursor .at) (run .cursor .line) x → used + lineRoom ≤ length out → length (printed x run numbers′ rows out used .out) ≡ length out →
+  printed-ends : (numbers′ : List ℤ) (x : Said) → Advances size last (run .cursor .at) (run .cursor .line) x → used + lineRoom ≤ length out → length (printed x run numbers′ rows out used .out) ≡ length out →
       Ends size (length out) used (printed x run numbers′ rows out used)
   printed-ends numbers′ more w l e = record { cursor = h; place = (holds-not size last (run .cursor .at) longestRecord w .0, l) }
   printed-ends numbers′ (reads a k) w l e = record { cursor = w .1 .1; place = u }
@@ -65,7 +64,7 @@ module _ (size used : ℕ) (last : Bool) (run : Run) (numbers rows : List ℤ) (
   printed-ends numbers′ (ends bytes) w l e = record { cursor = h; place = written-within bytes used out u e }
   printed-ends numbers′ quiet w l e = record { cursor = h; place = u }
 
-  left-ends : (heard : Heard) → tells.Moves size last (run .cursor .at) (run .cursor .line) (heard .said) → lineRoom ≤ length out → length (turnLeft heard run numbers rows out used .out) ≡ length out →
+  left-ends : (heard : Heard) → Advances size last (run .cursor .at) (run .cursor .line) (heard .said) → lineRoom ≤ length out → length (turnLeft heard run numbers rows out used .out) ≡ length out →
       Ends size (length out) used (turnLeft heard run numbers rows out used)
   unfolding turnLeft
   left-ends heard w r = go (leb (used + lineRoom) (length out)) refl
@@ -94,7 +93,7 @@ module _ (t : Traverse) (a : Memory) (x : Turned) (numbers′ rows′ : List ℤ
       let s = a .standing in
       let w = take (s .have) (a .window) in
       let long = length-take-le (s .have) (a .window) f in
-      let m = subst (tells.Moves (length w) (s .last) (s .run .cursor .at) (s .run .cursor .line)) (sym (turn-seen t w (s .last) (s .run .cursor .at) (s .run .cursor .line) (s .run .state) (a .rows) (a .numbers) n)) (turn-moves w (s .last) t (s .run .cursor .at) (s .run .cursor .line) (s .run .state) (a .rows)) in
+      let m = subst (Advances (length w) (s .last) (s .run .cursor .at) (s .run .cursor .line)) (sym (turn-seen t w (s .last) (s .run .cursor .at) (s .run .cursor .line) (s .run .state) (a .rows) (a .numbers) n)) (turn-advances w (s .last) t (s .run .cursor .at) (s .run .cursor .line) (s .run .state) (a .rows)) in
       let y = subst (Ends (length w) (length (a .out)) (s .used)) (sym e)
       (left-ends (length w) (s .used) (s .last) (s .run) (a .numbers) (a .rows) (a .out) (omega arith) u _ m r (ap (λ (l : LeftTurn). length (l .out)) (sym e) ∙ k)) in
       subst (λ (n : ℕ). (x .run .cursor .at ≤ n) × Placed n (length (a .out)) (x .run .cursor .at) (s .used) (x .turn)) long (y .cursor, y .place)

@@ -1,5 +1,5 @@
--- Every list of turns that keep the promise of `turn`: what was written and what waits is the storm's lines, as far as the turns went. By one law of a
--- turn (`turn-tells` of `hydrograph`), on windows that end with what was read (`Ending` of `files`). Assumes nothing.
+-- Every list of turns that keep the promise of `turn`: what was handed over and what waits is the storm's lines, as far as the turns went. By one law of
+-- a turn (`turn-tells` of `hydrograph`), on windows that end with what was read (`Ending` of `files`). Assumes nothing.
 use mathlib.Core.Path.{_≡_, refl, sym, ap, subst, _∙_}
 use mathlib.Core.Bool.{Bool, true, false, cond}
 use mathlib.Core.List.{List, [], _∷_, _++_, append-assoc, append-nil}
@@ -22,8 +22,7 @@ use Rattle.march.specs.declared.State.{State}
 use Rattle.hydrograph.specs.declared.Turn.the-variants as turn
 use Rattle.hydrograph.specs.Turns.{Said, more, reads, says, ends, quiet, startTurn, turnOf, linesFrom, saidThen, Begins, Heard, recordHeard, turnHeard, lineRoom, LeftTurn, printed, turnLeft}
 use Rattle.hydrograph.proofs.RecordRead.{turn-seen}
-use Rattle.hydrograph.proofs.Tells.{turn-tells, turn-moves}
-use Rattle.hydrograph.proofs.Tells as tells
+use Rattle.hydrograph.proofs.Tells.{Advances, turn-tells, turn-advances}
 use Rattle.surge.specs.declared.Standing.{Standing}
 use Rattle.surge.specs.Standing.{frontOf, standingWith, Memory, memory, turnOn, Follows, ReadBy, Waits, Moves, Moved}
 use Rattle.files.specs.Chain.{Chain}
@@ -226,7 +225,7 @@ module _ (t : Traverse) (a w : Memory) (s f : List ℕ) (h : Told t a w s f) whe
           (plain-final (final-failed t a (w .standing) (w .window) (w .numbers) (w .rows) (w .out) s f h))
 
   -- something was said, or the text has ended
-  by-said : (z : Said) → said t a (w .standing) (w .window) (w .numbers) (w .rows) (w .out) s f h ≡ z → tells.Moves (w .standing .have) (w .standing .last) (w .standing .run .cursor .at) (w .standing .run .cursor .line) z
+  by-said : (z : Said) → said t a (w .standing) (w .window) (w .numbers) (w .rows) (w .out) s f h ≡ z → Advances (w .standing .have) (w .standing .last) (w .standing .run .cursor .at) (w .standing .run .cursor .line) z
       → (b : Memory) → b .numbers ≡ answer z .numbers → b .rows ≡ answer z .rows → Moves (answer z .turn) (answer z) w b → Went t a w s f (answer z) b
   by-said more e k b n r m = by-more e (holds-not (w .standing .have) (w .standing .last) (w .standing .run .cursor .at) longestRecord k .1) b n r m
   by-said (reads at line) e k b n r m =
@@ -275,11 +274,11 @@ module _ (t : Traverse) (a w : Memory) (s f : List ℕ) (h : Told t a w s f) whe
       is : said t a (w .standing) (w .window) (w .numbers) (w .rows) (w .out) s f h ≡ heard .said
       is = sym (turn-seen t (take (w .standing .have) (w .window)) (w .standing .last) (w .standing .run .cursor .at) (w .standing .run .cursor .line) (w .standing .run .state) (w .rows) (w .numbers) (h .room))
 
-      moves : tells.Moves (w .standing .have) (w .standing .last) (w .standing .run .cursor .at) (w .standing .run .cursor .line) (heard .said)
+      moves : Advances (w .standing .have) (w .standing .last) (w .standing .run .cursor .at) (w .standing .run .cursor .line) (heard .said)
       moves =
-          subst (λ (k : ℕ). tells.Moves k (w .standing .last) (w .standing .run .cursor .at) (w .standing .run .cursor .line) (heard .said)) size
-          (subst (tells.Moves (length (take (w .standing .have) (w .window))) (w .standing .last) (w .standing .run .cursor .at) (w .standing .run .cursor .line)) is
-          (turn-moves (take (w .standing .have) (w .window)) (w .standing .last) t (w .standing .run .cursor .at) (w .standing .run .cursor .line) (w .standing .run .state) (w .rows)))
+          subst (λ (k : ℕ). Advances k (w .standing .last) (w .standing .run .cursor .at) (w .standing .run .cursor .line) (heard .said)) size
+          (subst (Advances (length (take (w .standing .have) (w .window))) (w .standing .last) (w .standing .run .cursor .at) (w .standing .run .cursor .line)) is
+          (turn-advances (take (w .standing .have) (w .window)) (w .standing .last) t (w .standing .run .cursor .at) (w .standing .run .cursor .line) (w .standing .run .state) (w .rows)))
 
       go : (r : Bool) → b .numbers ≡ cond r (answer (heard .said)) full .numbers → b .rows ≡ cond r (answer (heard .said)) full .rows → Moves (cond r (answer (heard .said)) full .turn) (cond r (answer (heard .said)) full) w b
           → Went t a w s f (cond r (answer (heard .said)) full) b

@@ -20,12 +20,11 @@ use Rattle.hydrograph.specs.declared.Run.{Run}
 use Rattle.hydrograph.specs.declared.Turn.the-variants as turn
 use Rattle.hydrograph.specs.Turns.{Said, more, reads, says, ends, quiet, Heard, turnHeard, lineRoom, LeftTurn, printed, turnLeft}
 use Rattle.hydrograph.proofs.RecordRead.{turn-seen}
-use Rattle.hydrograph.proofs.Tells.{turn-moves}
-use Rattle.hydrograph.proofs.Tells as tells
+use Rattle.hydrograph.proofs.Tells.{Advances, turn-advances}
 use Rattle.surge.specs.declared.Standing.{Standing}
-use Rattle.surge.specs.Standing.{Memory, turnOn, standingWith, Waits, ReadBy, Moves, Moved}
-use Rattle.surge.specs.Printed.{Reached, readBy, textRead}
-use Rattle.surge.specs.Listing.{Fresh, TurnsEnd}
+use Rattle.surge.specs.Standing.{Memory, memory, turnOn, standingWith, Waits, ReadBy, Moves, Moved}
+use Rattle.surge.specs.Printed.{Reached, readBy, textRead, begunAt}
+use Rattle.surge.specs.Listing.{Fresh, TurnsEnd, MarchEnds}
 use Rattle.surge.proofs.Turns.{told-at}
 
 -- ---- what turns may be spent
@@ -117,7 +116,7 @@ module _ (t : Traverse) (w b : Memory) (place : w .standing .run .cursor .at ≤
   abbrev answer : Said → List ℤ → LeftTurn
   answer z numbers = printed z (w .standing .run) numbers (w .rows) (w .out) (w .standing .used)
 
-  by-said : (z : Said) (numbers : List ℤ) → tells.Moves (w .standing .have) (w .standing .last) (w .standing .run .cursor .at) (w .standing .run .cursor .line) z → Moves (answer z numbers .turn) (answer z numbers) w b
+  by-said : (z : Said) (numbers : List ℤ) → Advances (w .standing .have) (w .standing .last) (w .standing .run .cursor .at) (w .standing .run .cursor .line) z → Moves (answer z numbers .turn) (answer z numbers) w b
       → Spent (answer z numbers)
   by-said more numbers m g =
       let r = subst (λ (y : Bool). ReadBy y (w .standing .run) (w .standing) (b .standing) (w .window) (b .window) (w .out) (b .out)) on g in
@@ -146,12 +145,12 @@ module _ (t : Traverse) (w b : Memory) (place : w .standing .run .cursor .at ≤
       heard : Heard
       heard = turnHeard t (take (w .standing .have) (w .window)) (w .standing .last) (w .standing .run .cursor .at) (w .standing .run .cursor .line) (w .standing .run .state) (w .rows) (w .numbers)
 
-      moves : tells.Moves (w .standing .have) (w .standing .last) (w .standing .run .cursor .at) (w .standing .run .cursor .line) (heard .said)
+      moves : Advances (w .standing .have) (w .standing .last) (w .standing .run .cursor .at) (w .standing .run .cursor .line) (heard .said)
       moves =
-          subst (λ (k : ℕ). tells.Moves k (w .standing .last) (w .standing .run .cursor .at) (w .standing .run .cursor .line) (heard .said)) (length-take-le (w .standing .have) (w .window) held)
-          (subst (tells.Moves (length text) (w .standing .last) (w .standing .run .cursor .at) (w .standing .run .cursor .line))
+          subst (λ (k : ℕ). Advances k (w .standing .last) (w .standing .run .cursor .at) (w .standing .run .cursor .line) (heard .said)) (length-take-le (w .standing .have) (w .window) held)
+          (subst (Advances (length text) (w .standing .last) (w .standing .run .cursor .at) (w .standing .run .cursor .line))
           (sym (turn-seen t text (w .standing .last) (w .standing .run .cursor .at) (w .standing .run .cursor .line) (w .standing .run .state) (w .rows) (w .numbers) room))
-          (turn-moves text (w .standing .last) t (w .standing .run .cursor .at) (w .standing .run .cursor .line) (w .standing .run .state) (w .rows)))
+          (turn-advances text (w .standing .last) t (w .standing .run .cursor .at) (w .standing .run .cursor .line) (w .standing .run .state) (w .rows)))
 
       go : (r : Bool) → Moves (cond r (answer (heard .said) (heard .numbers)) full .turn) (cond r (answer (heard .said) (heard .numbers)) full) w b → Spent (cond r (answer (heard .said) (heard .numbers)) full)
       go true g = by-said (heard .said) (heard .numbers) moves g
@@ -171,10 +170,13 @@ module _ (t : Traverse) (a : Memory) (fresh : Fresh t a) where
       (spent t w b (h .place) (h .ending .held) (λ z. omega (arith, h .start z)) (h .room) on (q .0 .1) (length earlier) (length s) (within earlier w (q .1) (q .0 .0)))
 
 pub turns-end : TurnsEnd
-turns-end t a fresh earlier b q small spent = by (b .standing .on) refl
+turns-end t a fresh earlier b q on =
+    let w = within t a fresh earlier b q on in
+    omega (arith, flag-most (b .standing .last), flag-most (ltb 0 (b .standing .run .cursor .line)), flag-most (eqb (b .standing .used) 0))
+
+pub march-ends : MarchEnds
+march-ends fd t run used window numbers rows out waits window′ numbers′ rows′ out′ fresh m small = by (m .standing .on) refl
   where
-    by : (on : Bool) → b .standing .on ≡ on → b .standing .on ≡ false
-    by true e =
-        let w = within t a fresh earlier b q e in
-        absurd (omega (arith, flag-most (b .standing .last), flag-most (ltb 0 (b .standing .run .cursor .line)), flag-most (eqb (b .standing .used) 0)))
+    by : (on : Bool) → m .standing .on ≡ on → m .standing .on ≡ false
+    by true e = absurd (omega (arith, turns-end t (memory (begunAt fd run used) window numbers rows out) fresh (m .earlier) (memory (m .standing) window′ numbers′ rows′ out′) (m .reached) e, m .ended e))
     by false e = e

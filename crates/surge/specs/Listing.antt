@@ -5,25 +5,25 @@
 use mathlib.Core.Path.{_≡_}
 use mathlib.Core.Bool.{Bool, true, false}
 use mathlib.Core.List.{List, [], _∷_, _++_}
-use Prim.Native.Nat.{ℕ, _<_, _≤_, _^_}
+use Prim.Native.Nat.{ℕ, _+_, _*_, _<_, _≤_, _^_}
 use lib.ListN.{length, take}
 use lib.IntN.{ℤ}
 use Rattle.records.specs.Shapes.{Traverse, count}
 use Rattle.listing.specs.Lines.{failedLine}
 use Rattle.reader.specs.Storm.{recordSize, stormOf}
-use Rattle.files.specs.Chain.{mostTurns}
 use Rattle.files.specs.declared.Flushed.{Flushed}
 use Rattle.files.specs.declared.Loaded.{Loaded}
 use Rattle.files.specs.declared.Loaded.the-variants as loaded
 use Rattle.files.specs.declared.TraverseFile.{TraverseFile}
 use Rattle.files.specs.TraverseFile.{Continues}
 use Rattle.files.specs.TraverseFile as files
+use Rattle.hydrograph.specs.declared.Run.{Run}
 use Rattle.hydrograph.specs.declared.Turn.{Turn}
 use Rattle.hydrograph.specs.declared.Turn.the-variants as turn
 use Rattle.hydrograph.specs.Listing.{stormLines, listingOf}
 use Rattle.hydrograph.specs.Turns.{Begins, LeftTurn}
 use Rattle.surge.specs.Standing.{Lent, Memory, memory, turnOn}
-use Rattle.surge.specs.Printed.{Reached, textRead, handedOn, MarchesSome, beginOn, AfterBegin, traverseIn, rowsIn, AfterFile, Runs}
+use Rattle.surge.specs.Printed.{Reached, textRead, handedOn, begunAt, Marches, MarchesSome, beginOn, AfterBegin, traverseIn, rowsIn, AfterFile, Runs}
 
 -- ---- how a run ended, and what it printed of a listing
 
@@ -76,11 +76,18 @@ TurnsTell =
     (t : Traverse) (a : Memory) → Fresh t a → (earlier : List Memory) (b : Memory) → Reached t a earlier b → (e : List ℕ) → Continues (b .standing .last) e
     → PrintedOf (howMarched t earlier b) (handedOn t earlier ++ take (b .standing .used) (b .out)) (marchedLines t a (textRead t earlier b ++ e))
 
--- and they come to their end: no more of them are made than the text read has bytes, four times over, so that no storm below 2⁵³ bytes uses up 2⁵⁶
+-- turns that go on are no more than four for each byte of the text that was read, and five
 abbrev pub TurnsEnd : Type 0
 TurnsEnd =
-    (t : Traverse) (a : Memory) → Fresh t a → (earlier : List Memory) (b : Memory) → Reached t a earlier b → length (textRead t earlier b) < 2 ^ 53
-    → length earlier ≡ mostTurns → b .standing .on ≡ false
+    (t : Traverse) (a : Memory) → Fresh t a → (earlier : List Memory) (b : Memory) → Reached t a earlier b → b .standing .on ≡ true
+    → length earlier ≤ 4 * length (textRead t earlier b) + 5
+
+-- so a march comes to its end by itself, and not by its count of turns, wherever fewer than 2⁵³ bytes were read
+abbrev pub MarchEnds : Type 0
+MarchEnds =
+    (fd : ℤ) (t : Traverse) (run : Run) (used : ℕ) (window : List ℕ) (numbers rows : List ℤ) (out : List ℕ) (waits : ℕ) (window′ : List ℕ) (numbers′ rows′ : List ℤ) (out′ : List ℕ)
+    → Fresh t (memory (begunAt fd run used) window numbers rows out) → (m : Marches fd t run used window numbers rows out waits window′ numbers′ rows′ out′)
+    → length (textRead t (m .earlier) (memory (m .standing) window′ numbers′ rows′ out′)) < 2 ^ 53 → m .standing .on ≡ false
 
 -- ---- a run
 

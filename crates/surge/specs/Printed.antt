@@ -91,12 +91,12 @@ pub record Untouched (window : List ℕ) (numbers rows : List ℤ) (window′ : 
 
 -- by the answer: the names line was written and the storm marched with nothing waiting, or the write failed; or the refusal waits
 module _ (t : Traverse) (window : List ℕ) (numbers rows : List ℤ) (waits : ℕ) (window′ : List ℕ) (numbers′ rows′ : List ℤ) (out′ : List ℕ) where
-  abbrev pub AfterNames : Bool → LeftTurn → Type 0
-  AfterNames true l = MarchesSome t (l .run) 0 window numbers rows (l .out) waits window′ numbers′ rows′ out′
-  AfterNames false l = (waits ≡ 0) × (out′ ≡ l .out) × Untouched window numbers rows window′ numbers′ rows′
+  abbrev pub AfterNames : Bool → Run → List ℕ → Type 0
+  AfterNames true run out = MarchesSome t run 0 window numbers rows out waits window′ numbers′ rows′ out′
+  AfterNames false run out = (waits ≡ 0) × (out′ ≡ out) × Untouched window numbers rows window′ numbers′ rows′
 
   abbrev pub AfterBegin : Turn → Bool → LeftTurn → Type 0
-  AfterBegin (turn.Line k) wrote l = AfterNames wrote l
+  AfterBegin (turn.Line k) wrote l = AfterNames wrote (l .run) (l .out)
   AfterBegin (turn.End k) wrote l = (waits ≡ k) × (out′ ≡ l .out) × Untouched window numbers rows window′ numbers′ rows′
   AfterBegin turn.More wrote l = ⊥
   AfterBegin turn.Full wrote l = ⊥

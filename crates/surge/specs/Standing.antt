@@ -5,6 +5,7 @@ use mathlib.Core.List.{List}
 use Prim.Native.Nat.{ℕ, _+_, _<_, _≤_}
 use lib.ListN.{length, take, replicate}
 use lib.IntN.{ℤ, pos}
+use Rattle.records.specs.Limits.{mostPoints}
 use Rattle.records.specs.Shapes.{Traverse, count}
 use Rattle.listing.specs.Lines.{failedLine}
 use Rattle.listing.specs.Put.{written}
@@ -14,7 +15,7 @@ use Rattle.files.specs.declared.Filled.{Filled}
 use Rattle.files.specs.declared.Filled.the-variants as filled
 use Rattle.files.specs.declared.Flushed.{Flushed}
 use Rattle.files.specs.declared.Flushed.the-variants as flushed
-use Rattle.files.specs.Filled.{InFront, Held}
+use Rattle.files.specs.Filled.{InFront, HeldWindow}
 use Rattle.hydrograph.specs.declared.Run.{Run}
 use Rattle.hydrograph.specs.declared.Turn.{Turn}
 use Rattle.hydrograph.specs.declared.Turn.the-variants as turn
@@ -31,7 +32,7 @@ noRows = replicate 192 (pos 0)
 pub record Lent (window : ℕ) (points numbers rows : List ℤ) (out : ℕ) : Type 0 where
   pub window-holds : longestRecord ≤ window
   pub points-fresh : points ≡ noPoints
-  pub record-holds : 197 ≤ length numbers
+  pub record-holds : recordSize mostPoints ≤ length numbers
   pub rows-fresh : rows ≡ noRows
   pub out-holds : lineRoom ≤ out
 
@@ -101,7 +102,7 @@ turnOn t a =
 pub record Follows (run : Run) (x y : Standing) (a b : List ℕ) : Type 0 where
   pub same : y .run ≡ frontOf run
   pub waits : y .used ≡ x .used
-  pub window : Held a b (run .cursor .at) (x .have) (y .have) (y .last)
+  pub window : HeldWindow a b (run .cursor .at) (x .have) (y .have) (y .last)
 
 -- the read failed: the line that says so waits behind the others, and no more comes
 pub record Fails (run : Run) (x y : Standing) (a b out out′ : List ℕ) : Type 0 where

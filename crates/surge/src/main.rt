@@ -23,7 +23,7 @@ ghost use Rattle.hydrograph.specs.Listing.{refusalLine};
 ghost use Rattle.hydrograph.specs.Turns.{lineRoom};
 ghost use Rattle.files.specs.Filled.{Refills, Flushes};
 ghost use Rattle.surge.specs.Standing.{Lent, PutsAt, Stands, Starts, frontOf, standingWith, AfterRefill, ReadFrom, wentOut, memory, Moved};
-ghost use Rattle.surge.specs.Printed.{Marches, MarchesSome, Prints, Runs};
+ghost use Rattle.surge.specs.Printed.{Marches, AfterNames, Prints, Runs};
 
 // How the program stands between two turns: the run, whose cursor is in the window; how many bytes of the window hold text, and whether the
 // text ends with them; how many bytes wait to be printed; and whether it goes on.
@@ -213,7 +213,7 @@ fn march_storm(
     x.used
 }
 
-// The storm on a traverse that was opened.
+// The storm on a traverse that was opened, after the names line, `used` bytes, was to be written; nothing where that failed.
 fn print_storm(
     buf: &mut [u8],
     head: Head,
@@ -223,14 +223,20 @@ fn print_storm(
     rows: &mut [i64],
     out: &mut [u8],
     used: usize,
+    named: Flushed,
 ) -> usize
-    requires { ⌜ Starts run used (now buf) (traverse head (now points)) (now numbers) (now out) ⌝ }
-    ensures { λ r. ⌜ (r ≤ length (now (out .exit))) × MarchesSome (traverse head (now (points .entry))) run used (now (buf .entry)) (now (numbers .entry)) (now (rows .entry)) (now (out .entry)) r (now (buf .exit)) (now (numbers .exit)) (now (rows .exit)) (now (out .exit)) ⌝ }
+    requires { ⌜ Flushes named used × Starts run used (now buf) (traverse head (now points)) (now numbers) (now out) ⌝ }
+    ensures { λ r. ⌜ (r ≤ length (now (out .exit))) × AfterNames (traverse head (now (points .entry))) (now (buf .entry)) (now (numbers .entry)) (now (rows .entry)) r (now (buf .exit)) (now (numbers .exit)) (now (rows .exit)) (now (out .exit)) (wentOut named) run (now (out .entry)) ⌝ }
 {
-    let fd = os::open_read(b"storm.txt");
-    let waits = march_storm(fd, buf, head, points, run, numbers, rows, out, used);
-    libc::close(fd);
-    waits
+    match named {
+        Flushed::Failed => 0,
+        Flushed::Wrote(n) => {
+            let fd = os::open_read(b"storm.txt");
+            let waits = march_storm(fd, buf, head, points, run, numbers, rows, out, used - n);
+            libc::close(fd);
+            waits
+        }
+    }
 }
 
 // A traverse that was read: the listing's names line, written before `storm.txt` is opened, and the storm; or the refusal.
@@ -249,10 +255,10 @@ fn print_run(
     let answer = begun.turn;
     let run = begun.run;
     match answer {
-        Turn::Line(k) => match files::flush(out, k) {
-            Flushed::Failed => 0,
-            Flushed::Wrote(n) => print_storm(buf, head, points, run, numbers, rows, out, k - n),
-        },
+        Turn::Line(k) => {
+            let named = files::flush(out, k);
+            print_storm(buf, head, points, run, numbers, rows, out, k, named)
+        }
         Turn::End(k) => k,
         // These do not come: opening needs no text, and there is room for a line.
         Turn::More => 0,

@@ -1,18 +1,16 @@
 -- `surge::print_run` meets its contract. Assumes nothing.
-use mathlib.Core.Path.{_≡_, refl, subst}
-use mathlib.Core.Bool.{true, false}
+use mathlib.Core.Path.{_≡_, refl}
+use mathlib.Core.Bool.{true}
 use mathlib.Core.List.{[]}
 use native.Mathlib.Omega.{arith}
-use Prim.Native.Nat.{_-_}
 use denote.Ref.{now}
 use Rattle.records.specs.Shapes.{traverse}
-use Rattle.files.specs.declared.Flushed.{Flushed}
-use Rattle.files.specs.Filled.{Flushes}
 use Rattle.hydrograph.specs.declared.Turn.{Turn}
 use Rattle.hydrograph.specs.declared.Turn.the-variants as turn
 use Rattle.hydrograph.specs.Turns.{leftTurn}
+use Rattle.surge.specs.Standing.{wentOut}
 use Rattle.surge.specs.Printed.{beginOn}
-use Rattle.surge.proofs.Begun.{Begun, begin-begun, prints, begun-told, from-nought}
+use Rattle.surge.proofs.Begun.{Begun, begin-begun, prints, begun-told}
 use borrow.Author.Needs.{needs}
 use Rattle.surge.proofs.print_run.Statement.{statement}
 use Rattle.surge.proofs.print_run.Tie as tie
@@ -36,44 +34,26 @@ flush-requires c κs =
     let b = c .before .before .before .before .before .before .before in
     omega (arith, begun b _ (c .before .before .answer .given .1) .0, b .begin .kept .1 .1 .0)
 
-enum-told : tie.Need-enum-told
-enum-told c = search needs
-
-enum-known-n : tie.Need-enum-known-n
-enum-known-n c = search needs
-
-sub-print-storm : tie.Need-sub-print-storm
-sub-print-storm c =
-    let n = subst (λ (x : Flushed). Flushes x (c .before .before .before .before .before .before .before .before .before .before .answer .given .0 .0)) (c .before .before .before .before .before .n .given .1) (c .before .before .before .before .before .before .before .flush .ensures) in
-    omega arith
-
 print-storm-requires : tie.Need-print-storm-requires
 print-storm-requires c κs =
-    let b = c .before .before .before .before .before .before .before .before .before .before .before .before .before .before .before in
+    let b = c .before .before .before .before .before .before .before .before .before .before .before .before in
     let p = b .before .before .before .before .pre in
-    let g = begun b _ (c .before .before .before .before .before .before .before .before .before .before .answer .given .1) in
-    record { place = g .1; waits = omega (arith, g .0, b .begin .kept .1 .1 .0); window-holds = p .0; out-holds = omega (arith, p .1 .0, b .begin .kept .1 .1 .0); record-holds = p .1 .1 }
+    let g = begun b _ (c .before .before .before .before .before .before .before .answer .given .1) in (
+      c .before .before .before .before .flush .ensures,
+      record { place = g .1; waits = omega (arith, g .0, b .begin .kept .1 .1 .0); window-holds = p .0; out-holds = omega (arith, p .1 .0, b .begin .kept .1 .1 .0); record-holds = p .1 .1 },
+    )
 
 enum-known-answer-2 : tie.Need-enum-known-answer-2
 enum-known-answer-2 c = search needs
 
+enum-told : tie.Need-enum-told
+enum-told c = search needs
+
 enum-told-2 : tie.Need-enum-told-2
 enum-told-2 c = search needs
 
-enum-told-3 : tie.Need-enum-told-3
-enum-told-3 c = search needs
-
 same-length : tie.Need-same-length
 same-length c = search needs
-
-returns : tie.Need-returns
-returns c =
-    let b = c .before .before .before .before .before .before .before .before .before .before in
-    let s = b .before .before .before .before in (
-      omega arith,
-      prints (traverse (s .args .head) (now (s .args .points))) (now (s .args .out)) (s .pre .1 .0) (b .begin .result) (b .begin .last .1 .1 .0) (told b) _ (c .before .before .before .before .before .answer .given .1) false _ _ _ _ _ _ _ _
-          (refl, refl, record { window-same = refl; numbers-same = refl; rows-same = refl }),
-    )
 
 same-length-2 : tie.Need-same-length-2
 same-length-2 c = search needs
@@ -84,27 +64,20 @@ same-length-3 c = search needs
 same-length-4 : tie.Need-same-length-4
 same-length-4 c = search needs
 
+returns : tie.Need-returns
+returns c =
+    let b = c .before .before .before .before .before .before .before .before .before .before .before .before .before .before .before .before .before .before .before in
+    let s = b .before .before .before .before in
+    let p = c .before .before .before .before .before .before .print-storm .ensures in (
+      p .0,
+      prints (traverse (s .args .head) (now (s .args .points))) (now (s .args .out)) (s .pre .1 .0) (b .begin .result) (b .begin .last .1 .1 .0) (told b) _ (c .before .before .before .before .before .before .before .before .before .before .before .before .before .before .answer .given .1) (wentOut (c .before .before .before .before .before .before .before .before .before .before .before .flush .result)) _ _ _ _ _ _ _ _ (p .1),
+    )
+
 same-length-5 : tie.Need-same-length-5
 same-length-5 c = search needs
 
 returns-2 : tie.Need-returns-2
 returns-2 c =
-    let b = c .before .before .before .before .before .before .before .before .before .before .before .before .before .before .before .before .before .before .before .before .before .before in
-    let s = b .before .before .before .before in
-    let p = c .before .before .before .before .before .before .print-storm .ensures in
-    let k = c .before .before .before .before .before .before .before .before .before .before .before .before .before .before .before .before .before .answer .given in
-    let n = subst (λ (x : Flushed). Flushes x (k .0 .0)) (c .before .before .before .before .before .before .before .before .before .before .before .before .n .given .1) (c .before .before .before .before .before .before .before .before .before .before .before .before .before .before .flush .ensures) in
-    let z : k .0 .0 - c .before .before .before .before .before .before .before .before .before .before .before .before .n .given .0 .0 ≡ 0 = omega arith in (
-      p .0,
-      prints (traverse (s .args .head) (now (s .args .points))) (now (s .args .out)) (s .pre .1 .0) (b .begin .result) (b .begin .last .1 .1 .0) (told b) _ (k .1) true _ _ _ _ _ _ _ _
-          (from-nought z (p .1)),
-    )
-
-same-length-6 : tie.Need-same-length-6
-same-length-6 c = search needs
-
-returns-3 : tie.Need-returns-3
-returns-3 c =
     let b = c .before .before .before .before .before .before in
     let s = b .before .before .before .before in
     let k = c .before .answer2 .given in (
@@ -113,17 +86,17 @@ returns-3 c =
           (refl, refl, record { window-same = refl; numbers-same = refl; rows-same = refl }),
     )
 
+same-length-6 : tie.Need-same-length-6
+same-length-6 c = search needs
+
+returns-3 : tie.Need-returns-3
+returns-3 c = absurd (begun (c .before .before .before .before .before) turn.More (c .enum-told .given .1))
+
 same-length-7 : tie.Need-same-length-7
 same-length-7 c = search needs
 
 returns-4 : tie.Need-returns-4
-returns-4 c = absurd (begun (c .before .before .before .before .before) turn.More (c .enum-told2 .given .1))
-
-same-length-8 : tie.Need-same-length-8
-same-length-8 c = search needs
-
-returns-5 : tie.Need-returns-5
-returns-5 c = absurd (begun (c .before .before .before .before .before) turn.Full (c .enum-told3 .given .1))
+returns-4 c = absurd (begun (c .before .before .before .before .before) turn.Full (c .enum-told2 .given .1))
 
 pub print-run-spec : {M : Type 1} → statement M
 print-run-spec =
@@ -132,23 +105,18 @@ print-run-spec =
     begin-requires
     enum-known-answer
     flush-requires
-    enum-told
-    enum-known-n
-    sub-print-storm
     print-storm-requires
     enum-known-answer-2
+    enum-told
     enum-told-2
-    enum-told-3
     same-length
-    returns
     same-length-2
     same-length-3
     same-length-4
+    returns
     same-length-5
     returns-2
     same-length-6
     returns-3
     same-length-7
-    returns-4
-    same-length-8
-    returns-5)
+    returns-4)
