@@ -3,8 +3,8 @@
 #
 #   python3 explain.py PROGRAM [CASES [SEED]]
 #
-# First a table with every refusal that files can bring about and every cause that
-# is told apart; then CASES generated folders (by default 400). PROGRAM makes each
+# First the table of gen/causes.py, with every refusal that files can bring about and
+# every cause that is told apart; then CASES generated folders (by default 400). PROGRAM makes each
 # listing. Everything that is expected of a place is worked out here, from the two
 # texts and the listing; standard output must stay empty and the status be 3.
 # The last line is `N passed, M failed`; the exit status is 0 only where M is 0.
@@ -19,7 +19,8 @@ import tempfile
 from itertools import islice
 
 from compare_files import bytes_of, place_file
-from gen import cases, edges
+from gen import cases, causes
+from gen.causes import GOOD, with_line
 from model import march
 
 HOME = os.path.dirname(os.path.dirname(os.path.abspath(__file__)))
@@ -29,6 +30,10 @@ TRAVERSE, STORM = "traverse.txt", "storm.txt"
 SHOWN = 10
 # No bash complains of our own scripts, and no fault goes unfound.
 SIGNS_OF_A_FAULT = ("unbound variable", "syntax error", "command not found", "tools/", "does not show this fault")
+CONDITIONS = {
+    1: "names line is different", 2: "value line is malformed", 3: "text ends", 4: "seconds or tide differ", 5: "fewer than 2 or more than 65 points",
+    6: "value of the traverse", 7: "distances", 9: "value of a record", 10: "water depth", 11: "flux", 12: "setup",
+}
 LIMITS = {
     "latitude": march.LATITUDE, "friction": march.FRICTION, "initial": march.INITIAL,
     "distance": march.DISTANCE, "depth": march.DEPTH, "tide": march.TIDE,
@@ -50,8 +55,9 @@ def check(what, wrong):
 
 
 def listing_of(program, folder):
-    done = subprocess.run([program], cwd=folder, stdin=subprocess.DEVNULL, stdout=subprocess.PIPE)
-    return done.stdout
+    return subprocess.run(
+        [program], cwd=folder, stdin=subprocess.DEVNULL, stdout=subprocess.PIPE, stderr=subprocess.DEVNULL,
+    ).stdout
 
 
 def explained(folder, listing, *options, command=(EXPLAIN,)):
@@ -78,6 +84,10 @@ def line_at(text, number):
     lines = text.split(b"\n", number)
     line = lines[number - 1]
     return line + b"\n" if len(lines) > number else line
+
+
+def first_difference(line, names):
+    return next(i for i in range(len(names)) if line[i : i + 1] != names[i : i + 1])
 
 
 def first_fault(line, count):
@@ -133,6 +143,12 @@ class Refused:
             return told
         return told + ", record %d, point %d" % (self.record, place - 1 - (self.record - 1) * self.points)
 
+    def names(self):
+        """What the names line has to be."""
+        if self.file == STORM:
+            return b"seconds tide wind angle deficit\n"
+        return b"latitude friction initial\n" if self.place == 1 else b"distance depth\n"
+
     def line(self):
         """The line that is shown and marked, for refusals that have just one."""
         if self.number == 6:
@@ -174,6 +190,9 @@ def wrong_mark(refused, lines):
     marks = marked(lines, text)
     if marks is None:
         return "line %r not shown with a mark" % text
+    if refused.number == 1:
+        at = column[first_difference(refused.line(), refused.names())]
+        return None if min(marks) == at else "marked %d, expected %d" % (min(marks), at)
     if refused.number == 2:
         count = 5 if refused.file == STORM else 3 if refused.place == 2 else 2
         at = first_fault(refused.line(), count)
@@ -204,7 +223,8 @@ def judge(case, listing, done):
         return "said %r" % told
     texts = [bytes_of(thing) for thing in (case.traverse, case.storm)]
     refused = Refused(texts[0] or b"", texts[1] or b"", listing)
-    if not lines or not lines[0].startswith("refused %d %d: " % (refused.number, refused.place)):
+    first = "refused %d %d: " % (refused.number, refused.place)
+    if not lines or not lines[0].startswith(first) or CONDITIONS[refused.number] not in lines[0]:
         return "first line %r" % lines[:1]
     if not any(line.startswith("usual causes: ") for line in lines):
         return "no causes in %r" % told
@@ -218,130 +238,6 @@ def judge(case, listing, done):
     if refused.number in (1, 2, 6, 9):
         return wrong_mark(refused, lines)
     return None
-
-
-# The table
-
-SMALL = cases.small_run()
-GOOD = SMALL.traverse_text(), SMALL.storm_text()
-
-
-def with_line(text, number, line):
-    lines = text.split(b"\n")
-    lines[number - 1] = line
-    return b"\n".join(lines)
-
-
-def names_causes():
-    """(what is changed, traverse, storm, mark, words): refusal 1, in each file."""
-    def both(label, change, mark, *words):
-        yield (label, change(GOOD[0]), GOOD[1], mark, words)
-        yield (label, GOOD[0], change(GOOD[1]), mark, words)
-
-    yield from both("carriage returns", lambda t: t.replace(b"\n", b"\r\n"), None, "a carriage return", "line ends of Windows")
-    yield from both("carriage returns alone", lambda t: t.replace(b"\n", b"\r"), None, "a carriage return")
-    yield from both("byte-order mark", lambda t: b"\xef\xbb\xbf" + t, (0, 12), "a byte-order mark", "saved as UTF-8 with a mark")
-    yield from both("UTF-16", lambda t: t.decode().encode("utf-16"), (0, 8), "UTF-16")
-    yield from both("tabs", lambda t: t.replace(b" ", b"\t"), None, "a tab", "one space between two values")
-    yield from both("commas", lambda t: t.replace(b" ", b","), None, "a comma or semicolon")
-    yield from both("two spaces", lambda t: t.replace(b" ", b"  ", 1), None, "two spaces")
-    yield from both("space at the end", lambda t: t.replace(b"\n", b" \n", 1), None, "a space at the end of the line")
-    yield from both("space at the start", lambda t: b" " + t, (0, 1), "a space at the start of the line")
-    yield from both("capitals", lambda t: t[:1].upper() + t[1:], (0, 1), "a capital letter", "small letters")
-    yield from both("no names", lambda t: t.split(b"\n", 1)[1], None, "values where the names should be")
-    yield from both("no line feed", lambda t: t.split(b"\n", 1)[0], None, "no line feed: the text ends here")
-    yield from both("a name left out", lambda t: t.replace(b"\n", b"", 1).split(b" ", 1)[0] + b"\n", None, "the line ends here")
-    yield from both("a name more", lambda t: t.replace(b"\n", b" datum\n", 1), None, "more than the names")
-    yield from both("blank line", lambda t: b"\n" + t, (0, 1), "an empty line")
-    yield from both("another name", lambda t: t[:3] + b"x" + t[4:], (3, 4), "another character than the name has")
-    yield from both("no bytes", lambda t: b"", None, "is empty", "not one byte")
-    yield ("exchanged", GOOD[1], GOOD[0], (0, 31), ("traverse.txt and storm.txt exchanged",))
-    yield ("two value lines", with_line(GOOD[0], 3, b"305 25 -20"), GOOD[1], (0, 10), ("expected: distance depth", "a line of values too many"))
-
-
-# The second point of a traverse stands in line 5; its mark, and what is said.
-POINT_LINES = (
-    (b"60.5 700", (2, 3), "a decimal point", "12.5 nautical miles are 125"),
-    (b"60 700 ", (6, 7), "a space at the end of the line"),
-    (b"060 700", (0, 1), "a leading zero", "write 5 and not 05"),
-    (b"60 0700", (3, 4), "a leading zero"),
-    (b"-060 700", (1, 2), "a leading zero"),
-    (b"60 700\r", (6, 8), "a carriage return", "line ends of Windows"),
-    (b"60\t700", (2, 4), "a tab"),
-    (b"60,700", (2, 3), "a comma or semicolon", "thousands separator"),
-    (b"60  700", (3, 4), "two spaces"),
-    (b" 60 700", (0, 1), "a space at the start of the line"),
-    (b"60", (2, 3), "the line ends after 1 of 2 values"),
-    (b"60 ", (3, 4), "the line ends after 1 of 2 values"),
-    (b"", (0, 1), "an empty line"),
-    (b"60 700 5", (7, 8), "more than 2 values"),
-    (b"+60 700", (0, 1), "a plus sign"),
-    (b"-0 700", (0, 2), "a minus before nought"),
-    (b"- 60 700", (1, 2), "a minus with no digit behind it"),
-    (b"6e1 700", (1, 2), "an exponent"),
-    (b"1234567890 700", (9, 10), "more than nine digits"),
-    (b"sixty 700", (0, 1), "a letter"),
-    (b"60 \xe2\x88\x92700", (3, 7), "a byte, E2, that is no plain character", "word processor"),
-    (b'"60" 700', (0, 1), "a quotation mark"),
-    (b"#60 700", (0, 1), "a number sign", "comment"),
-    (b"60\x00 700", (2, 4), "a zero byte"),
-    (b"60 700*", (6, 7), "a character that no value has"),
-)
-
-
-def value_causes():
-    for line, mark, *words in POINT_LINES:
-        yield (repr(line), with_line(GOOD[0], 5, line), GOOD[1], mark, words)
-        # the same in the middle of the storm: record 2, point 2
-        yield ("storm " + repr(line), GOOD[0], with_line(GOOD[1], 6, line + b" 0 0 0"), None, ())
-    yield ("no last line feed", GOOD[0][:-1], GOOD[1], (5, 6), ("no line feed: the text ends here", "end the file with one"))
-    yield ("no last line feed", GOOD[0], GOOD[1][:-1], (22, 23), ("no line feed: the text ends here",))
-    yield ("head of two", with_line(GOOD[0], 2, b"305 25"), GOOD[1], (6, 7), ("the line ends after 2 of 3 values", "limits: 3 values (latitude friction initial)"))
-    yield ("a long line", with_line(GOOD[0], 5, b"60 " + b"7" * 100_000), GOOD[1], None, ("more than nine digits",))
-
-
-def text_causes():
-    for count in (1, 2, 3):
-        yield ("cut", b"".join(GOOD[0].splitlines(True)[:count]), GOOD[1], None, ("a file that was cut short",))
-    for count in (1, 2, 3, 5, 9):
-        yield ("cut", GOOD[0], b"".join(GOOD[1].splitlines(True)[:count]), None, ("a file that was cut short",) if count > 1 else ())
-    yield ("a record short", GOOD[0], b"".join(GOOD[1].splitlines(True)[:9]), None, ("record 3 has 2 of 3 lines", "from line 8 on, 2 lines in a row"))
-    yield ("seconds differ", GOOD[0], with_line(GOOD[1], 6, b"1801 10 1 1 1"), (0, 4), ("seconds 1801, not 1800", "line 5, the first of the record:"))
-    yield ("tide differs", GOOD[0], with_line(GOOD[1], 7, b"1800 11 1 1 1"), (5, 7), ("tide 11, not 10",))
-    more = GOOD[0].replace(b"0 400\n", b"20 450\n0 400\n")
-    yield ("a point too many", more, GOOD[1], (0, 4), ("the traverse has 4 points", "from line 2 on, 3 lines in a row"))
-
-
-def limit_causes():
-    head = lambda line: with_line(GOOD[0], 2, line)
-    point = lambda number, line: with_line(GOOD[0], 3 + number, line)
-    yield ("latitude", head(b"901 25 0"), GOOD[1], (0, 3), ("43 degrees are 430",))
-    yield ("friction", head(b"900 9 0"), GOOD[1], (4, 5), ("0.0025 is 25",))
-    yield ("initial", head(b"0 50 -1001"), GOOD[1], (5, 10), ("1 ft is 100",))
-    yield ("distance", point(1, b"6401 9"), GOOD[1], (0, 4), ("0.1 nautical mile",))
-    yield ("depth", point(3, b"0 -1"), GOOD[1], (2, 4), ("heights of land",))
-    yield ("one point", b"".join(GOOD[0].splitlines(True)[:4]), GOOD[1], (0, 8), ("there is no second point", "limits: 2 to 65 points"))
-    points = b"".join(b"%d 500\n" % i for i in range(69, -1, -1))
-    yield ("70 points", b"".join(GOOD[0].splitlines(True)[:3]) + points, GOOD[1], (0, 5), ("there are 70 points", "limits: 2 to 65 points"))
-    yield ("from shore to sea", point(2, b"151 9"), GOOD[1], (0, 3), ("distance 151, not less than 150", "from sea to shore"))
-    yield ("a gap", point(2, b"49 9"), GOOD[1], (0, 2), ("distance 49, 101 less than 150", "more than 10 nautical miles"))
-    yield ("no shore", point(3, b"5 9"), GOOD[1], (0, 1), ("distance 5 at the last point, not 0", "the last 0"))
-
-
-def record_causes():
-    storm = GOOD[1]
-    yield ("first seconds", GOOD[0], storm.replace(b"\n0 -5", b"\n5 -5"), (0, 1), ("the first record closes no interval",))
-    yield ("seconds", GOOD[0], storm.replace(b"\n3600 ", b"\n5400 "), (0, 4), ("seconds since the storm's start", "ended at 1800 s"))
-    yield ("tide", GOOD[0], storm.replace(b"\n1800 10 ", b"\n1800 -2001 "), (5, 10), ("0.01 ft",))
-    yield ("wind", GOOD[0], with_line(storm, 7, b"1800 10 2001 0 0"), (8, 12), ("100 miles per hour are 1000",))
-    yield ("angle", GOOD[0], with_line(storm, 8, b"3600 -100 0 3600 0"), (12, 16), ("360 degrees are 0",))
-    yield ("deficit", GOOD[0], with_line(storm, 2, b"0 -5 0 0 2992"), (9, 13), ("the pressure itself (2992)",))
-    yield ("dry", GOOD[0].replace(b"400", b"0").replace(b" 700", b" 4"), storm, None, ("without setup: 0.7784 ft", "from 1 ft to 1000 ft", "falls dry"))
-    deep = GOOD[0].replace(b"-20", b"6").replace(b"150 1200", b"150 10000").replace(b" 700", b" 10000")
-    yield ("deep", deep, storm, None, ("without setup: 1000.0784 ft\n", "from 1 ft to 1000 ft"))
-    rng = random.Random(3)
-    for run, words in ((edges.flux_edge(rng)[1], ("from -10000 to 10000 ft2/s", "friction too small")), (edges.setup_edge(rng)[1], ("from -100 ft to 100 ft", "shallow"))):
-        yield ("edge", run.traverse_text(), run.storm_text(), None, words)
 
 
 def wrong_words(case, done, mark, words):
@@ -376,9 +272,7 @@ class Room:
 
 def test_table(room):
     seen = set()
-    for label, traverse, storm, mark, words in (
-        *names_causes(), *value_causes(), *text_causes(), *limit_causes(), *record_causes(),
-    ):
+    for label, traverse, storm, mark, words in causes.every():
         case = cases.Case(label, traverse, storm)
         listing, done = room.run(case, "-q")
         if number_and_place(listing) is None:
@@ -458,6 +352,15 @@ def test_pipes(room):
         check("pipes, %r" % last, None if done.returncode == 3 and "no ordinary file" in told and "tools/" not in told else told)
 
 
+def test_folders_for_files(room):
+    """A folder of a file's name opens and cannot be read: `failed`."""
+    good = cases.reference_run()
+    for name, texts in ((TRAVERSE, (cases.FOLDER, good.storm_text())), (STORM, (good.traverse_text(), cases.FOLDER))):
+        listing, done = room.run(cases.Case("folder", *texts))
+        told = done.stderr.decode()
+        check("a folder for " + name, None if done.returncode == 1 and "%s in %s is a folder" % (name, room.root + "/case") in told else told)
+
+
 def test_changed(room):
     """A listing of other files: that is said, and nothing is made up."""
     folder = os.path.join(room.root, "changed")
@@ -467,25 +370,40 @@ def test_changed(room):
     for number, place in ((1, 1), (2, 2), (2, 90), (5, 80), (6, 0), (6, 2), (7, 2)):
         told = explained(folder, b"refused %d %d\n" % (number, place)).stderr.decode()
         check("changed", None if "does not show this fault now" in told and "tools/" not in told else told)
+    # the elapsed time is the listing's and the seconds the file's; 1,000,000,000 is the most
+    for elapsed, words in ((999_998_200, "does not show this fault now"), (999_998_201, "elapsed 1000000001 s")):
+        told = explained(folder, NAMES + b"%d 1 2\nrefused 9 0\n" % elapsed).stderr.decode()
+        check("elapsed", None if words in told and "ended at %d s" % elapsed in told else told)
+        check("elapsed, limits", None if ("limits: elapsed time from 0 to 1000000000 s" in told) == ("elapsed 1" in told) else told)
     for number, place in ((1, 1), (2, 6), (4, 6), (9, 0), (9, 2), (9, 50), (11, 60)):
         told = explained(folder, NAMES + b"0 1 2\n" + b"refused %d %d\n" % (number, place)).stderr.decode()
         check("changed", None if "does not show this fault now" in told and "tools/" not in told else told)
 
 
+NO = "this is no listing of the program"
+CUT = "the listing is cut short"
+LISTINGS = (
+    (NAMES + b"0 1 2\n", 0, "records      1"),
+    (NAMES + b"0 1 2\nfailed\n", 1, "could not read storm.txt"), (b"failed\n", 1, "could not read traverse.txt"),
+    (b"", 1, CUT), (NAMES, 1, CUT), (NAMES + b"0 1 2", 1, CUT), (b"seconds low", 1, CUT), (b"\x00\xff", 1, CUT),
+    (b"hello\n", 2, NO), (b"\x00\xff\n", 2, NO), (NAMES + b"0 1\n", 2, NO), (NAMES + NAMES, 2, NO), (b"0 1 2\n", 2, NO), (NAMES + b"\n0 1 2\n", 2, NO),
+    (b"refused 1 1\n0 1 2\n", 2, NO), (NAMES + b"refused 1 1\nfailed\n", 2, NO), (b"refused 1 1\nx", 2, NO),
+    (b"refused 08 1\n", 2, NO), (b"refused 2 08\n", 2, NO), (b"refused 2 %d\n" % 10**15, 2, NO),
+    (NAMES + b"08 1 2\n", 2, NO), (NAMES + b"%d 1 2\n" % 10**10, 2, NO),
+    (b"refused 8 1\n", 3, "refused 8 1: the program has no such refusal"), (b"refused 99 1\n", 3, "the program has no such refusal"),
+    (b"refused 5 4000000000\n", 3, "there are 4000000000 points"),
+    (b"refused 2 4000000000\n", 3, "in traverse.txt, line 4000000000, point 3999999997"),
+)
+
+
 def test_listings(room):
-    """What is no refusal, by its status; and the summary against sums made here."""
+    """Whole, cut, failed, refused and other listings, by their status."""
     folder = os.path.join(room.root, "changed")
-    for listing, status, words in (
-        (NAMES + b"0 1 2\n", 0, "records      1"), (NAMES + b"0 1 2\nfailed\n", 1, "could not read storm.txt"), (b"failed\n", 1, "could not read traverse.txt"),
-        (NAMES, 1, "cut short"), (b"", 1, "cut short"), (NAMES + b"0 1 2", 1, "cut short"), (b"seconds low", 1, "cut short"), (b"hello\n", 2, "no listing"),
-        (b"refused 1 1\n0 1 2\n", 2, "no listing"), (NAMES + b"refused 1 1\nfailed\n", 2, "no listing"), (NAMES + b"0 1\n", 2, "no listing"),
-        (NAMES + NAMES, 2, "no listing"), (b"0 1 2\n", 2, "no listing"), (NAMES + b"\n0 1 2\n", 2, "no listing"), (b"refused 8 1\n", 3, "refused 8 1: no refusal of the program"),
-        (b"refused 99 1\n", 3, "no refusal of the program"),
-    ):
+    for listing, status, words in LISTINGS:
         done = explained(folder, listing)
         told = done.stderr.decode()
         good = done.returncode == status and words in told and not done.stdout and "tools/refusals" not in told
-        check("listing %r" % listing, None if good else "status %d, %r" % (done.returncode, told))
+        check("listing %r" % listing, None if good and "is a folder" not in told else "status %d, %r" % (done.returncode, told))
     for arguments in ((), (folder, folder), ("-x", folder), (os.path.join(folder, "none"),)):
         done = subprocess.run([EXPLAIN, *arguments], input=b"failed\n", stdout=subprocess.PIPE, stderr=subprocess.PIPE)
         check("usage %s" % (arguments,), None if done.returncode == 2 and done.stderr and not done.stdout else done)
@@ -565,6 +483,7 @@ def main(program, count=400, seed=1):
         test_wrong_folder(room)
         test_locked(room)
         test_pipes(room)
+        test_folders_for_files(room)
         test_changed(room)
         test_listings(room)
         test_summary(room, rng)

@@ -528,8 +528,8 @@ def example_listing():
     return done.stdout
 
 
-def without_version(svg):
-    return re.sub(rb"<desc>.*?</desc>", b"", svg)
+def version_of(svg):
+    return re.search(rb"<desc>.*?</desc>", svg).group()
 
 
 def readme_draws_picture(bench):
@@ -542,13 +542,16 @@ def readme_draws_picture(bench):
     folder = bench.folder(listing=example_listing())
     bench.run(folder, "listing", "x.svg", str(ROOT / words[3]))
     drawn, kept = (folder / "x.svg").read_bytes(), PICTURE.read_bytes()
-    need(without_version(drawn) == without_version(kept), f"{name} is another picture")
+    # another gnuplot may set the same picture otherwise
+    if version_of(drawn) == version_of(kept):
+        need(drawn == kept, f"{name} is another picture")
+    for data in drawn, kept:
+        judge(data, example_listing(), published(), "published")
 
 
-def kept_picture_is_right(bench):
+def published():
     lines = (EXAMPLE / "published.csv").read_text().splitlines()[1:]
-    readings = [tuple(map(float, line.split(","))) for line in lines]
-    judge(PICTURE.read_bytes(), example_listing(), readings, "published")
+    return [tuple(map(float, line.split(","))) for line in lines]
 
 
 def pages_agree(bench):
@@ -645,7 +648,6 @@ def test_outputs(bench):
 
 def test_readme(bench):
     bench.test("README's commands draw README's picture", readme_draws_picture)
-    bench.test("README's picture shows the example", kept_picture_is_right)
     bench.test("the example's README has the same commands", pages_agree)
 
 

@@ -172,6 +172,7 @@ def test_writes(root):
     started.stdout.close()
     told = started.stderr.read()
     check("left by its reader", started.wait() == 1 and first == b"seconds lo" and b"could not be written whole" in told, told)
+    check("the march goes on to its end", b"records      20000, " in told, told)
     done = run(folder)
     check("a long listing", done.returncode == 0 and done.stdout == bare(folder), done.returncode)
 

@@ -68,7 +68,7 @@ is_digit() { # INDEX
 # Takes COUNT values off the line by document 01's rule. values: the sound ones; from, upto: their first and last bytes.
 # Where the line is not sound: status 1, fault_at the first byte that breaks the rule, fault_last the last of it, fault its kind (values.sh).
 scan_values() { # COUNT
-    local i=0 first digits want
+    local i=0 first digits want kind
     values=() from=() upto=() fault="" fault_at=0 fault_last=0
     while :; do
         first=$i
@@ -82,12 +82,12 @@ scan_values() { # COUNT
         elif ((digits > 9)); then set_fault digits $((first + (bytes[first] == 45) + 9)) $((i - 1))
         fi
         [ -z "$fault" ] || return 1
-        want=32
-        ((${#values[@]} + 1 < $1)) || want=10
-        [ "${bytes[i]:-}" = $want ] || { set_fault $([ $want -eq 10 ] && echo end || echo space) $i $i; return 1; }
+        want=32 kind=space
+        ((${#values[@]} + 1 < $1)) || want=10 kind=end
+        [ "${bytes[i]:-}" = $want ] || { set_fault $kind $i $i; return 1; }
         values+=("${text:column[first]:i - first}") from+=("$first") upto+=($((i - 1)))
         i=$((i + 1))
-        ((want == 32)) || return 0
+        [ $kind = space ] || return 0
     done
 }
 

@@ -102,18 +102,7 @@ name_other() { # BYTE WANTED
 explain_names() { # NAME LINE
     local names
     names=$(expected_names "$1" "$2")
-    place_in "$1" "$2"
-    load_line "$folder/$1" "$2"
-    if ! readable "$folder/$1"; then
-        no_line "$1"
-    elif name_difference "$names"; then
-        show_line "$what" "$fault_at:$fault_last"
-        say "expected: $names"
-        causes "$cause"
-        return
-    else
-        changed
-    fi
-    say "expected: $names"
-    causes "line ends of Windows (carriage returns); a byte-order mark; tabs, commas or two spaces between the names; no line feed after the line"
+    explain_line "$1" "$2" "expected: $names" \
+        "line ends of Windows (carriage returns); a byte-order mark; tabs, commas or two spaces between the names; no line feed after the line" \
+        name_difference "$names"
 }

@@ -35,24 +35,34 @@ count_of() { # NAME LINE
     fi
 }
 
-explain_malformed() { # NAME LINE
-    local count
-    count=$(count_of "$1" "$2")
+# Shows a line and its fault where FINDER finds one: what, cause, fault_at, fault_last. Then RULE, and how such a fault comes about; USUAL says that
+# where none is found.
+explain_line() { # NAME LINE RULE USUAL FINDER..
     place_in "$1" "$2"
     load_line "$folder/$1" "$2"
     if ! readable "$folder/$1"; then
+        cause=$4
         no_line "$1"
-    elif [ ${#bytes[@]} -eq 0 ] || scan_values "$count"; then
-        changed
-    else
-        name_fault "$count"
+    elif "${@:5}"; then
         show_line "$what" "$fault_at:$fault_last"
-        say "limits: $count values ($(names_of "$1" "$2")), $form"
-        causes "$cause"
-        return
+    else
+        cause=$4
+        changed
     fi
-    say "limits: $count values ($(names_of "$1" "$2")), $form"
-    causes "a decimal point; a space at the end of the line; a leading zero; no line feed after the last line; line ends of Windows; tabs"
+    say "$3"
+    causes "$cause"
+}
+
+explain_malformed() { # NAME LINE
+    local count
+    count=$(count_of "$1" "$2")
+    explain_line "$1" "$2" "limits: $count values ($(names_of "$1" "$2")), $form" \
+        "a decimal point; a space at the end of the line; a leading zero; no line feed after the last line; line ends of Windows; tabs" \
+        find_malformed "$count"
+}
+
+find_malformed() { # COUNT
+    [ ${#bytes[@]} -gt 0 ] && ! scan_values "$1" && name_fault "$1"
 }
 
 names_of() { # NAME LINE
@@ -63,7 +73,7 @@ explain_ended() { # NAME LINE
     say "in $1: the text ends after line $2"
     load_line "$folder/$1" "$2"
     readable "$folder/$1" || no_line "$1"
-    [ ${#bytes[@]} -eq 0 ] || show_line ""
+    [ ${#bytes[@]} -eq 0 ] || show_line "the text ends behind this line" "$((${#bytes[@]} - 1)):$((${#bytes[@]} - 1))"
     if [ "$1" = traverse.txt ]; then
         case $2 in
             1) say "limits: behind $traverse_names comes a line with these three values" ;;
@@ -90,31 +100,43 @@ explain_short() { # LINE
 
 # How many lines of the storm, from this one on, have the same seconds and tide: so many points its maker may have meant.
 tell_block() { # LINE
-    local n
     readable "$folder/storm.txt" || return 0
-    n=$(tail -n "+$1" < "$folder/storm.txt" | LC_ALL=C awk 'NR == 1 { a = $1; b = $2 } $1 != a || $2 != b || NR > 9999 { exit } { n++ } END { print n + 0 }')
-    say "from line $1 on, $n line$( ((n == 1)) || echo s) in a row ha$( ((n == 1)) && echo s || echo ve) the same seconds and tide"
+    say "lines in a row with the same seconds and tide, from line $1 on: $(tail -n "+$1" < "$folder/storm.txt" | awk '
+        NR == 1 { seconds = $1; tide = $2 }
+        $1 != seconds || $2 != tide || NR > 9999 { exit }
+        { count++ }
+        END { print count + 0 }')"
 }
 
 explain_differs() { # LINE
-    local first old
     place_in storm.txt "$1"
-    readable "$folder/storm.txt" || no_line storm.txt
-    if ! storm_place "$1"; then return; fi
-    first=$(line_of storm.txt "$record" 1)
-    load_line "$folder/storm.txt" "$first"
-    if ! scan_values 5; then changed; else
-        old=("${values[@]}")
-        say "line $first, the first of the record:"
-        show_line "" "${from[0]}:${upto[0]}" "${from[1]}:${upto[1]}"
-        load_line "$folder/storm.txt" "$1"
-        if ! scan_values 5; then changed
-        elif [ "${values[0]}" != "${old[0]}" ]; then say "line $1:"; show_line "seconds ${values[0]}, not ${old[0]}" "${from[0]}:${upto[0]}"
-        elif [ "${values[1]}" != "${old[1]}" ]; then say "line $1:"; show_line "tide ${values[1]}, not ${old[1]}" "${from[1]}:${upto[1]}"
-        else changed
-        fi
+    if ! readable "$folder/storm.txt"; then
+        no_line storm.txt
+    elif ! storm_place "$1"; then
+        no_line traverse.txt
+    else
+        show_difference "$(line_of storm.txt "$record" 1)" "$1" || changed
+        tell_block "$(line_of storm.txt "$record" 1)"
     fi
-    say "limits: every line of a record repeats its seconds and its tide; the traverse has $points points, so a record has $points lines"
-    tell_block "$first"
+    say "limits: every line of a record repeats its seconds and its tide, and it has a line for each point of the traverse${points_known:+, $points here}"
     causes "a storm made for a traverse of another count of points; a line left out of a record; a tide that was given by point"
+}
+
+# The record's first line and the one that differs; status 1 where it does not.
+show_difference() { # FIRST LINE
+    local i old names=(seconds tide)
+    load_line "$folder/storm.txt" "$1"
+    scan_values 5 || return 1
+    old=("${values[@]}")
+    say "line $1, the first of the record:"
+    show_line "" "${from[0]}:${upto[0]}" "${from[1]}:${upto[1]}"
+    load_line "$folder/storm.txt" "$2"
+    scan_values 5 || return 1
+    for i in 0 1; do
+        [ "${values[i]}" = "${old[i]}" ] && continue
+        say "line $2:"
+        show_line "${names[i]} ${values[i]}, not ${old[i]}" "${from[i]}:${upto[i]}"
+        return 0
+    done
+    return 1
 }

@@ -65,7 +65,7 @@ name_space() { # COUNT
 }
 
 name_odd() { # BYTE
-    if (($1 > 127)); then
+    if (($1 < 32 || $1 > 126)); then
         printf -v what 'a byte, %02X, that is no plain character' "$1"
         cause="text from a word processor (its minus sign, its fixed space), or a byte-order mark: plain ASCII alone"
     elif (($1 >= 65 && $1 <= 122)); then
