@@ -177,6 +177,15 @@ def test_writes(root):
     check("a long listing", done.returncode == 0 and done.stdout == bare(folder), done.returncode)
 
 
+def test_side_by_side(root):
+    """Storms that are run at one time do not disturb each other."""
+    whole = os.path.join(root, "whole")
+    started = [subprocess.Popen([RUN, whole], stdout=subprocess.PIPE, stderr=subprocess.PIPE) for _ in range(8)]
+    for one in started:
+        listing, told = one.communicate()
+        check("side by side", one.returncode == 0 and listing == bare(whole), one.returncode, told)
+
+
 def test_stack(root):
     """The stack that the README says is enough, for 65 points, all of the environment apart."""
     with open(os.path.join(HOME, "README.md")) as readme:
@@ -301,6 +310,14 @@ def test_builds(root, path):
     started.communicate()
     check("named at once", lines[1] == b"  1 of 10: ranges proved (1 s)\n", lines)
 
+    # another build holds the lock: that is said, and waited for
+    stub(stubs, "rt", "exit 0\n")
+    lock = os.path.join(place, "target", "lock")
+    holder = subprocess.Popen(["flock", lock, "sh", "-c", "echo held; sleep 4"], stdout=subprocess.PIPE)
+    holder.stdout.readline()
+    done = run(whole, command=start, env=with_path(stubs, path))
+    check("another build", "waiting for another build of this project to end\n" in done.stderr.decode() and holder.wait() == 0, done)
+
     # a program that is stopped in its course
     stub(stubs, "rt", "exit 0\n")
     stub(os.path.join(place, "target", "bin"), "surge", "printf 'seconds low high\\n0 1 2\\n600 1'\nkill -9 $$\n")
@@ -357,6 +374,7 @@ def main():
         test_usage(root)
         test_folders(root)
         test_writes(root)
+        test_side_by_side(root)
         test_stack(root)
         test_script(root)
         path = bare_machine(root)

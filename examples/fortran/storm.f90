@@ -3,7 +3,7 @@
 ! root:
 !
 !   tools/library
-!   gfortran -O2 -J target -o target/storm_fortran examples/fortran/surge.f90 examples/fortran/storm.f90 target/staticlib/libsurge_c.a
+!   gfortran -J target -o target/storm_fortran examples/fortran/surge.f90 examples/fortran/storm.f90 target/staticlib/libsurge_c.a
 !   target/storm_fortran examples/hampton-beach
 !
 ! Exit status: 0 a whole listing, 1 a file cannot be read or the listing cannot be written, 2 wrong usage, 3 a refusal.

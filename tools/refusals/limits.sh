@@ -8,13 +8,15 @@ limits_of() { # VALUE
         initial) least=-1000 most=1000 unit="0.01 ft" cause="1 ft is 100; 10 ft are the most" ;;
         distance) least=0 most=6400 unit="0.1 nautical mile" cause="5 nautical miles are 50; feet or metres; points landward of the shore" ;;
         depth) least=0 most=10000 unit="0.1 ft" cause="50 ft are 500; heights of land, which are negative depths; soundings in centimetres" ;;
-        seconds) least=1 most=3600 unit="s" cause="seconds since the storm's start and not since the record before; hours as minutes" ;;
+        seconds) least=1 most=3600 unit="s" cause="seconds since the storm's start and not since the record before; two records of one time; records more than an hour apart" ;;
         tide) least=-2000 most=2000 unit="0.01 ft" cause="1 ft is 100; 20 ft are the most" ;;
         wind) least=0 most=2000 unit="0.1 mile per hour" cause="100 miles per hour are 1000; a missing reading as 9999 or -1" ;;
         angle) least=0 most=3599 unit="0.1 degree" cause="360 degrees are 0; 3600 is to be added to a negative angle; hundredths of a degree" ;;
         deficit) least=0 most=300 unit="0.01 inch of mercury" cause="the pressure itself (2992) and not what it lacks to that at the storm's edge; millibars; a pressure above the edge's" ;;
     esac
 }
+
+first_seconds="the first record closes no interval, so its seconds are 0; records that open their intervals are shifted by one (docs/DECISIONS.md, 12)"
 
 explain_count() { # POINTS
     local line=$((3 + $1))
@@ -41,7 +43,7 @@ explain_values() { # FILE LINE COUNT FIRST NAMES..
     for ((i = first; i < first + $#; i++)); do
         name=${*:i - first + 1:1}
         limits_of "$name"
-        [ "$name:$record" != seconds:1 ] || { least=0 most=0 cause="the first record closes no interval: its seconds are 0"; }
+        [ "$name:$record" != seconds:1 ] || least=0 most=0 cause=$first_seconds
         ((values[i] < least || values[i] > most)) || continue
         marks+=("${from[i]}:${upto[i]}")
         note+="${note:+, }$name ${values[i]}"
