@@ -24,7 +24,8 @@ HOME = os.path.dirname(os.path.dirname(os.path.abspath(__file__)))
 RUN = os.path.join(HOME, "run")
 SURGE = os.path.join(HOME, "target", "bin", "surge")
 SHOWN = 10
-# Not on the bare machine, though a package that every Debian has may bring it.
+# Every Debian has them, and the bare machine has not: that they are not needed is seen too.
+LEFT_OUT = ("perl-base", "dpkg")
 NOT_NEEDED = ("perl", "dpkg", "apt-get", "python3", "cc", "gcc", "c++", "g++", "gfortran", "ld", "as", "clang")
 
 passed = failed = 0
@@ -231,10 +232,11 @@ def bare_machine(root):
     query = ["dpkg-query", "-W", "-f", "${Package} ${Essential}\n"]
     told = subprocess.run(query, stdout=subprocess.PIPE, check=True, text=True).stdout
     packages = [line.split()[0] for line in told.splitlines() if line.endswith(" yes")]
+    packages = [package for package in packages if package not in LEFT_OUT]
     listed = subprocess.run(["dpkg-query", "-L", *packages], stdout=subprocess.PIPE, check=True, text=True).stdout
     for path in [*listed.splitlines(), shutil.which("awk")]:
         name = os.path.basename(path)
-        if re.match(r"(/usr)?/s?bin/", path) and os.access(path, os.X_OK) and name not in NOT_NEEDED and not os.path.lexists(os.path.join(place, name)):
+        if re.match(r"(/usr)?/s?bin/", path) and os.access(path, os.X_OK) and not os.path.lexists(os.path.join(place, name)):
             os.symlink(path, os.path.join(place, name))
     return place
 
