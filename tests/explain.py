@@ -102,6 +102,11 @@ def first_fault(line, count):
     raise AssertionError("a sound line")
 
 
+def feet(n):
+    """Ten-thousandths of a foot."""
+    return "%s%d.%04d" % ("-" if n < 0 else "", abs(n) // 10_000, abs(n) % 10_000)
+
+
 def number_and_place(listing):
     match = re.search(rb"(?:^|\n)refused (\d+) (\d+)\n$", listing)
     return (int(match.group(1)), int(match.group(2))) if match else None
@@ -156,6 +161,14 @@ class Refused:
         if self.number == 9:
             return line_at(self.texts[STORM], self.storm_line(max(self.place, 1)))
         return line_at(self.texts[self.file], self.place)
+
+    def depth(self):
+        """Of refusal 10: step 1 of document 01 without S, in words."""
+        initial = int(line_at(self.texts[TRAVERSE], 2).split()[2])
+        ends = [line_at(self.texts[TRAVERSE], 3 + self.place + k).split() for k in (0, 1)]
+        storm = [line_at(self.texts[STORM], self.storm_line(self.place + k)).split() for k in (0, 1)]
+        depth = 500 * sum(int(e[1]) for e in ends) + 100 * (initial + int(storm[0][1])) + 57 * sum(int(p[4]) for p in storm)
+        return "its water depth without setup: %s ft" % feet(depth)
 
     def past_limits(self):
         """Of refusals 6 and 9: the columns to mark and the names of these values."""
@@ -212,6 +225,24 @@ def wrong_mark(refused, lines):
     return None
 
 
+def wrong_segment(refused, lines):
+    """None, or what is wrong with the four lines of a segment, their marks and its depth."""
+    if refused.number == 10 and not any(line.startswith(refused.depth()) for line in lines):
+        return "not %r in %r" % (refused.depth(), lines)
+    values = (1, 4) if refused.number == 10 else (0, 2, 3)
+    for point in (refused.place, refused.place + 1):
+        for head, file, number, which in (
+            ("traverse.txt, line %d, point %d (distance, depth):", TRAVERSE, 3 + point, (1,)),
+            ("storm.txt, line %d, point %d (seconds, tide, wind, angle, deficit):", STORM, refused.storm_line(point), values),
+        ):
+            line = line_at(refused.texts[file], number).decode().rstrip("\n")
+            want = "".join(("^" if k in which else " ") * len(value) + " " for k, value in enumerate(line.split()))
+            at = lines.index(head % (number, point)) if head % (number, point) in lines else None
+            if at is None or lines[at + 1 : at + 3] != ["    " + line, "    " + want.rstrip()]:
+                return "not %r and %r in %r" % (line, want, lines)
+    return None
+
+
 def judge(case, listing, done):
     """None, or what is wrong with what was said of a refusal."""
     told = done.stderr.decode(errors="replace")
@@ -237,7 +268,7 @@ def judge(case, listing, done):
         return "no limits in %r" % told
     if refused.number in (1, 2, 6, 9):
         return wrong_mark(refused, lines)
-    return None
+    return wrong_segment(refused, lines) if refused.number > 9 else None
 
 
 def wrong_words(case, done, mark, words):
@@ -346,10 +377,18 @@ def test_pipes(room):
         check("pipe, %r" % last, None if good else told)
     os.remove(os.path.join(folder, TRAVERSE))
     os.mkfifo(os.path.join(folder, TRAVERSE))
-    for last in (b"refused 9 2\n", b"refused 9 0\n", b"refused 10 1\n", b"refused 2 7\n", b"refused 4 3\n", b"refused 3 3\n"):
-        done = explained(folder, NAMES + b"0 1 2\n" + last)
+    for names, last, words in (
+        (NAMES + b"0 1 2\n", b"refused 9 2\n", "in storm.txt, record 2, point 2\n"), (NAMES + b"0 1 2\n", b"refused 9 0\n", "in storm.txt, record 2\n"),
+        (NAMES + b"0 1 2\n", b"refused 10 1\n", "in storm.txt, record 2, segment 1"), (NAMES + b"0 1 2\n", b"refused 2 7\n", "in storm.txt, line 7\n"),
+        (NAMES + b"0 1 2\n", b"refused 4 3\n", "in storm.txt, line 3\n"), (NAMES + b"0 1 2\n", b"refused 3 3\n", "after line 3\n"),
+        (b"", b"refused 1 3\n", "in traverse.txt, line 3\n"), (b"", b"refused 2 5\n", "line 5, point 2\n"), (b"", b"refused 3 2\n", "after line 2\n"),
+        (b"", b"refused 5 70\n", "there are 70 points\n"), (b"", b"refused 6 0\n", "line 2\n"), (b"", b"refused 6 2\n", "line 5, point 2\n"),
+        (b"", b"refused 7 2\n", "line 5, point 2\n"),
+    ):
+        done = explained(folder, names + last)
         told = done.stderr.decode()
-        check("pipes, %r" % last, None if done.returncode == 3 and "no ordinary file" in told and "tools/" not in told else told)
+        good = done.returncode == 3 and words in told and "no ordinary file" in told and "tools/" not in told and "changed" not in told
+        check("pipes, %r" % last, None if good else told)
 
 
 def test_folders_for_files(room):
@@ -416,9 +455,6 @@ def hours(s):
 
 def test_summary(room, rng):
     """The summary of made-up listings, by whole numbers and strings."""
-    def feet(n):
-        return "%s%d.%04d" % ("-" if n < 0 else "", abs(n) // 10_000, abs(n) % 10_000)
-
     folder = os.path.join(room.root, "changed")
     for _ in range(40):
         rows, at = [], 0
@@ -456,6 +492,21 @@ def test_readme(room):
     check("the README's summary", None if block("records").splitlines()[:3] == ["    " + line for line in told.splitlines()] else told)
 
 
+SHARED = "bytes text column values from upto fault fault_at fault_last what cause points record folder elapsed".split()
+
+
+def test_shared_names():
+    """No function of tools/explain hides a name that its parts share: bash hands locals down."""
+    folder = os.path.join(HOME, "tools", "refusals")
+    paths = [EXPLAIN] + [os.path.join(folder, name) for name in sorted(os.listdir(folder))]
+    for path in paths:
+        with open(path) as file:
+            text = file.read()
+        for line in re.findall(r"^ *local (.*)$", text, re.M):
+            hidden = [name for name in SHARED if re.search(r"(^| )%s(=| |$)" % name, line)]
+            check("locals of %s" % os.path.basename(path), hidden)
+
+
 def test_generated(room, count, rng):
     """Folders of every kind: what is refused is found, and nothing goes wrong."""
     fixed = [case for case in cases.fixed("surge", rng) if not piped(case)]
@@ -488,6 +539,7 @@ def main(program, count=400, seed=1):
         test_listings(room)
         test_summary(room, rng)
         test_readme(room)
+        test_shared_names()
         test_generated(room, int(count), rng)
     print("%d passed, %d failed" % (passed, failed))
     return 1 if failed else 0

@@ -8,6 +8,7 @@
 import random
 
 from . import cases, edges
+from .run import Run
 
 GOOD = cases.small_run().traverse_text(), cases.small_run().storm_text()
 
@@ -28,6 +29,12 @@ def names_causes():
     yield from both("carriage returns alone", lambda t: t.replace(b"\n", b"\r"), None, "a carriage return")
     yield from both("byte-order mark", lambda t: b"\xef\xbb\xbf" + t, (0, 12), "a byte-order mark", "saved as UTF-8 with a mark")
     yield from both("UTF-16", lambda t: t.decode().encode("utf-16"), (0, 8), "a byte-order mark of UTF-16", "saved as UTF-16")
+    yield from both("UTF-16, the other way", lambda t: b"\xfe\xff" + t.decode().encode("utf-16-be"), (0, 8), "a byte-order mark of UTF-16")
+    yield from both("UTF-16 without a mark", lambda t: t.decode().encode("utf-16-le"), (1, 3), "a zero byte", "saved as UTF-16")
+    yield from both("semicolons", lambda t: t.replace(b" ", b";"), None, "a comma or semicolon")
+    yield from both("quotes", lambda t: b'"' + t, (0, 1), "a quotation mark")
+    yield from both("apostrophes", lambda t: b"'" + t, (0, 1), "a quotation mark")
+    yield from both("a comment", lambda t: b"#" + t, (0, 1), "a number sign", "comment")
     yield from both("tabs", lambda t: t.replace(b" ", b"\t"), None, "a tab", "one space between two values")
     yield from both("commas", lambda t: t.replace(b" ", b","), None, "a comma or semicolon")
     yield from both("two spaces", lambda t: t.replace(b" ", b"  ", 1), None, "two spaces")
@@ -74,6 +81,7 @@ POINT_LINES = (
     (b"60\x00 700", (2, 4), "a zero byte"),
     (b"60\x7f700", (2, 6), "a byte, 7F, that is no plain character"),
     (b"60\x0b700", (2, 6), "a byte, 0B, that is no plain character"),
+    (b"60~700", (2, 3), "a character that no value has"),
     (b"60 700*", (6, 7), "a character that no value has"),
 )
 
@@ -110,14 +118,16 @@ def limit_causes():
     yield ("latitude", head(b"901 25 0"), GOOD[1], (0, 3), ("43 degrees are 430",))
     yield ("friction", head(b"900 9 0"), GOOD[1], (4, 5), ("0.0025 is 25",))
     yield ("initial", head(b"0 50 -1001"), GOOD[1], (5, 10), ("1 ft is 100",))
-    yield ("distance", point(1, b"6401 9"), GOOD[1], (0, 4), ("0.1 nautical mile",))
+    yield ("distance", point(1, b"6401 9"), GOOD[1], (0, 4), ("5 nautical miles are 50",))
     yield ("depth", point(3, b"0 -1"), GOOD[1], (2, 4), ("heights of land",))
     yield ("one point", b"".join(GOOD[0].splitlines(True)[:4]), GOOD[1], (0, 8), ("there is no second point", "limits: 2 to 65 points"))
     points = b"".join(b"%d 500\n" % i for i in range(69, -1, -1))
-    yield ("70 points", b"".join(GOOD[0].splitlines(True)[:3]) + points, GOOD[1], (0, 5), ("there are 70 points", "limits: 2 to 65 points"))
+    yield ("70 points", b"".join(GOOD[0].splitlines(True)[:3]) + points, GOOD[1], (0, 5), ("there are 70 points", "^^^^^ point 66\n", "limits: 2 to 65 points"))
     yield ("from shore to sea", point(2, b"151 9"), GOOD[1], (0, 3), ("distance 151, not less than 150", "from sea to shore"))
     yield ("a gap", point(2, b"49 9"), GOOD[1], (0, 2), ("distance 49, 101 less than 150", "more than 10 nautical miles"))
-    yield ("no shore", point(3, b"5 9"), GOOD[1], (0, 1), ("distance 5 at the last point, not 0", "the last 0"))
+    rule = "limits: each distance from 1 to 100 less than the one before (0.1 nautical mile), the last 0\n"
+    yield ("no shore", point(3, b"5 9"), GOOD[1], (0, 1), ("distance 5 at the last point, not 0", rule))
+    yield ("almost the shore", point(3, b"1 9"), GOOD[1], (0, 1), ("distance 1 at the last point, not 0", rule))
 
 
 def record_causes():
@@ -131,6 +141,10 @@ def record_causes():
     yield ("dry", GOOD[0].replace(b"400", b"0").replace(b" 700", b" 4"), storm, None, ("without setup: 0.7784 ft", "from 1 ft to 1000 ft", "falls dry"))
     deep = GOOD[0].replace(b"-20", b"6").replace(b"150 1200", b"150 10000").replace(b" 700", b" 10000")
     yield ("deep", deep, storm, None, ("without setup: 1000.0784 ft\n", "from 1 ft to 1000 ft"))
+    points = [[i, 500] for i in range(64, -1, -1)]
+    run = Run(300, 25, 0, points, [[s, 0] + [[500, 300, 5]] * 65 for s in (0, 600)])
+    run.records[1][-1] = [2001, 300, 5]
+    yield ("65 points", run.traverse_text(), run.storm_text(), (6, 10), ("in storm.txt, line 131, record 2, point 65\n",))
     rng = random.Random(3)
     run = edges.flux_edge(rng)[1]
     yield ("flux", run.traverse_text(), run.storm_text(), None, ("from -10000 to 10000 ft2/s", "friction too small"))

@@ -27,8 +27,10 @@ explain_count() { # POINTS
         say "in traverse.txt, line $line, point $1: there is no second point"
     fi
     load_line "$folder/traverse.txt" "$line"
-    readable "$folder/traverse.txt" || no_line traverse.txt
-    if ! scan_values 2; then changed; else show_line "point $((line - 3))" "0:$((${#bytes[@]} - 2))"; fi
+    if ! readable "$folder/traverse.txt"; then no_line traverse.txt
+    elif ! scan_values 2; then changed
+    else show_line "point $((line - 3))" "${from[0]}:${upto[1]}"
+    fi
     say "limits: 2 to 65 points, sea to shore"
     causes "a sounding line that was not thinned out; a traverse that was cut short"
 }
@@ -67,23 +69,29 @@ explain_traverse_value() { # PLACE
 }
 
 explain_distance() { # POINT
-    local line=$((3 + $1)) before=""
-    place_in traverse.txt "$line"
-    readable "$folder/traverse.txt" || no_line traverse.txt
-    if (($1 > 1)); then
-        load_line "$folder/traverse.txt" $((line - 1))
-        if scan_values 2; then before=${values[0]} && show_line ""; fi
-    fi
-    load_line "$folder/traverse.txt" "$line"
-    if ! scan_values 2; then changed
-    elif [ -n "$before" ] && ((before - values[0] < 1)); then show_line "distance ${values[0]}, not less than $before" "${from[0]}:${upto[0]}"
-    elif [ -n "$before" ] && ((before - values[0] > 100)); then
-        show_line "distance ${values[0]}, $((before - values[0])) less than $before" "${from[0]}:${upto[0]}"
-    elif (($1 == points && values[0] != 0)); then show_line "distance ${values[0]} at the last point, not 0" "${from[0]}:${upto[0]}"
-    else changed
+    place_in traverse.txt $((3 + $1))
+    if ! readable "$folder/traverse.txt"; then no_line traverse.txt
+    elif ! show_distance "$1"; then changed
     fi
     say "limits: each distance from 1 to 100 less than the one before (0.1 nautical mile), the last 0"
     causes "points from shore to sea: they go from sea to shore; more than 10 nautical miles between two points; distances from the first point and not from shore"
+}
+
+# The point before and the one whose distance breaks the rule; status 1 where it does not.
+show_distance() { # POINT
+    local before
+    load_line "$folder/traverse.txt" $((2 + $1))
+    scan_values 2 || return 1
+    before=${values[0]}
+    show_line ""
+    load_line "$folder/traverse.txt" $((3 + $1))
+    scan_values 2 || return 1
+    if ((before - values[0] < 1)); then what="distance ${values[0]}, not less than $before"
+    elif ((before - values[0] > 100)); then what="distance ${values[0]}, $((before - values[0])) less than $before"
+    elif (($1 == points && values[0] != 0)); then what="distance ${values[0]} at the last point, not 0"
+    else return 1
+    fi
+    show_line "$what" "${from[0]}:${upto[0]}"
 }
 
 explain_record_value() { # PLACE

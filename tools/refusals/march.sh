@@ -9,10 +9,10 @@ feet() { # NUMBER
     printf '%s%d.%04d ft' "$sign" $((n / 10000)) $((n % 10000))
 }
 
-# Shows the two points of the segment in both files, the values that count marked: COLUMNS of the storm's line, from 0, and the traverse's depth.
+# Shows the two points of the segment in both files, the values that count marked: VALUES of the storm's line, from 0, and the traverse's depth.
 # d1, d2, p1, p2, tide: depths, deficits and tide; status 1 where they cannot be had.
-show_segment() { # SEGMENT COLUMNS..
-    local segment=$1 end line column marks
+show_segment() { # SEGMENT VALUES..
+    local segment=$1 end line value marks
     shift
     for end in 1 2; do
         line=$(line_of traverse.txt 0 $((segment + end - 1)))
@@ -29,7 +29,7 @@ show_segment() { # SEGMENT COLUMNS..
         printf -v "p$end" '%s' "${values[4]}"
         tide=${values[1]}
         marks=()
-        for column; do marks+=("${from[column]}:${upto[column]}"); done
+        for value; do marks+=("${from[value]}:${upto[value]}"); done
         say "storm.txt, line $line, point $((segment + end - 1)) (seconds, tide, wind, angle, deficit):"
         show_line "" "${marks[@]}"
     done
@@ -41,17 +41,17 @@ segment_lines() { # SEGMENT
 }
 
 explain_segment() { # NUMBER SEGMENT
-    local columns
+    local counting
     case $1 in
-        10) columns="1 4" ;;
-        *) columns="0 2 3" ;;
+        10) counting="1 4" ;;
+        *) counting="0 2 3" ;;
     esac
     say "in storm.txt, $(segment_lines "$2")record $record, segment $2 (points $2 and $(($2 + 1)))"
     say_elapsed
-    # shellcheck disable=SC2086 # a list of columns
+    # shellcheck disable=SC2086 # a list of values
     if ((points == 0)) || ! readable "$folder/traverse.txt"; then no_line traverse.txt
     elif ! readable "$folder/storm.txt"; then no_line storm.txt
-    elif ! show_segment "$2" $columns; then changed
+    elif ! show_segment "$2" $counting; then changed
     else tell_depth "$2"
     fi
     case $1 in

@@ -56,7 +56,6 @@ name_space() { # COUNT
     elif [ "$fault" = end ]; then
         what="more than $1 values" cause="a value too many, a comment, or two lines that run together"
         fault_at=$((fault_at + 1)) fault_last=$((${#bytes[@]} - 1))
-        ((bytes[fault_last] != 10)) || fault_last=$((fault_last - 1))
     elif ((fault_at == 0)); then
         what="a space at the start of the line" cause="values set in columns: no space before the first"
     else
