@@ -49,6 +49,8 @@ def names_causes():
     yield from both("another name", lambda t: t[:3] + b"x" + t[4:], (3, 4), "another character than the name has")
     yield from both("no bytes", lambda t: b"", None, "is empty", "not one byte")
     yield ("exchanged", GOOD[1], GOOD[0], (0, 31), ("traverse.txt and storm.txt exchanged",))
+    yield ("no head", GOOD[0].split(b"\n", 2)[2], GOOD[1], (0, 14), ("the names line of another place", "a line left out before it"))
+    yield ("head twice", with_line(GOOD[0], 3, b"latitude friction initial"), GOOD[1], (0, 25), ("the names line of another place", "expected: distance depth"))
     yield ("two value lines", with_line(GOOD[0], 3, b"305 25 -20"), GOOD[1], (0, 10), ("expected: distance depth", "a line of values too many"))
 
 
@@ -81,6 +83,11 @@ POINT_LINES = (
     (b"60\x00 700", (2, 4), "a zero byte"),
     (b"60\x7f700", (2, 6), "a byte, 7F, that is no plain character"),
     (b"60\x0b700", (2, 6), "a byte, 0B, that is no plain character"),
+    (b"60Z 700", (2, 3), "a letter"),
+    (b"60z 700", (2, 3), "a letter"),
+    (b"60_ 700", (2, 3), "a character that no value has"),
+    (b"60@ 700", (2, 3), "a character that no value has"),
+    (b"60{ 700", (2, 3), "a character that no value has"),
     (b"60~700", (2, 3), "a character that no value has"),
     (b"60 700*", (6, 7), "a character that no value has"),
 )

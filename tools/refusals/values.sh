@@ -67,7 +67,7 @@ name_odd() { # BYTE
     if (($1 < 32 || $1 > 126)); then
         printf -v what 'a byte, %02X, that is no plain character' "$1"
         cause="text from a word processor (its minus sign, its fixed space), or a byte-order mark: plain ASCII alone"
-    elif (($1 >= 65 && $1 <= 122)); then
+    elif (($1 >= 65 && $1 <= 90 || $1 >= 97 && $1 <= 122)); then
         what="a letter" cause="a unit, a word or a names line among the values: digits alone"
     else
         what="a character that no value has" cause="text that is not a table of whole numbers"
