@@ -203,6 +203,8 @@ def wrong_mark(refused, lines):
     marks = marked(lines, text)
     if marks is None:
         return "line %r not shown with a mark" % text
+    if refused.number == 3:  # just behind the last line
+        return None if marks == {len(text)} else "marked %s" % sorted(marks)
     if refused.number == 1:
         at = column[first_difference(refused.line(), refused.names())]
         return None if min(marks) == at else "marked %d, expected %d" % (min(marks), at)
@@ -266,7 +268,7 @@ def judge(case, listing, done):
     kinds = ("limits: ", "expected: ") if refused.number != 3 else ("limits: ", "record ")
     if not any(line.startswith(kinds) for line in lines):
         return "no limits in %r" % told
-    if refused.number in (1, 2, 6, 9):
+    if refused.number in (1, 2, 3, 6, 9):
         return wrong_mark(refused, lines)
     return wrong_segment(refused, lines) if refused.number > 9 else None
 

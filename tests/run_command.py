@@ -315,10 +315,13 @@ def test_builds(root, path):
     # another build holds the lock: that is said, and waited for
     stub(stubs, "rt", "exit 0\n")
     lock = os.path.join(place, "target", "lock")
-    holder = subprocess.Popen(["flock", lock, "sh", "-c", "echo held; sleep 4"], stdout=subprocess.PIPE)
+    holder = subprocess.Popen(["flock", lock, "sh", "-c", "echo held; sleep 60"], stdout=subprocess.PIPE, start_new_session=True)
     holder.stdout.readline()
-    done = run(whole, command=start, env=with_path(stubs, path))
-    check("another build", "waiting for another build of this project to end\n" in done.stderr.decode() and holder.wait() == 0, done)
+    started = subprocess.Popen([start, whole], env=with_path(stubs, path), stdout=subprocess.PIPE, stderr=subprocess.PIPE)
+    lines = [started.stderr.readline() for _ in range(2)]
+    check("another build", lines[1] == b"waiting for another build of this project to end\n" and started.poll() is None, lines)
+    os.killpg(holder.pid, 9)
+    started.communicate()
 
     # a program that is stopped in its course
     stub(stubs, "rt", "exit 0\n")
