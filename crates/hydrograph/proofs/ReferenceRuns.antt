@@ -12,6 +12,9 @@ use Rattle.ranges.specs.Fraction.{_/F_}
 use Rattle.ranges.specs.Range.{lesser, greater, nearest}
 use Rattle.ranges.specs.Quotient.{quotientLow, quotientHigh}
 use Rattle.ranges.specs.Damped.{dampedOf, dampedLeast, dampedMost, dampedLow, dampedHigh, dampedFloor, dampedCeil}
+use Rattle.records.specs.declared.Check.{Check}
+use Rattle.records.specs.declared.Check.the-variants.{Pass, Fail}
+use Rattle.records.specs.Chain.{firstBad}
 use Rattle.forcing.specs.Sine.{scaledSine, sineEntry}
 use Rattle.forcing.specs.Quadrant.{sineOf, cosineOf}
 use Rattle.forcing.specs.Stress.{stressOf, crossOf, onshoreOf}
@@ -24,9 +27,7 @@ use Rattle.records.specs.Shapes.{storm}
 use Rattle.segment.specs.declared.SegmentAnswer.{SegmentAnswer}
 use Rattle.segment.specs.declared.SegmentAnswer.the-variants.{On, Stop}
 use Rattle.segment.specs.Segment.{depthOf, fluxOf, gainOf, nextSetup, segmentOf, shoreBase}
-use Rattle.march.specs.declared.Check.{Check}
-use Rattle.march.specs.declared.Check.the-variants.{Pass, Fail}
-use Rattle.march.specs.Checks.{firstBad, spacingOk, traverseCheck, openOf, placesOk, lentCheck, timesOk, recordCheck, checksOf}
+use Rattle.march.specs.Checks.{spacingOk, traverseCheck, openOf, placesOk, lentCheck, timesOk, recordCheck, checksOf}
 use Rattle.march.specs.March.{marchBy, segmentAt}
 use Rattle.march.specs.Take.{takeOf}
 use Rattle.listing.specs.Decimal.{digitsOf, decimalOf, signedText}

@@ -12,6 +12,7 @@ use Rattle.records.specs.declared.Refusal.{Refusal}
 use Rattle.records.specs.Groups.{at}
 use Rattle.records.specs.Limits.{mostPoints}
 use Rattle.records.specs.Shapes.{Traverse, Record, storm, count}
+use Rattle.records.specs.declared.Check.the-variants.{Pass, Fail}
 use Rattle.listing.specs.declared.Put.{Put}
 use Rattle.listing.specs.declared.Put.the-variants.{Next, Full}
 use Rattle.listing.specs.Put.{AfterPut, afterPut, putOf, written}
@@ -26,7 +27,6 @@ use Rattle.reader.specs.Storm.{recordSize, recordIn, startStep, recordStepLeft}
 use Rattle.march.specs.declared.State.{State}
 use Rattle.march.specs.declared.Answer.the-variants as answer
 use Rattle.march.specs.declared.Taken.{Taken}
-use Rattle.march.specs.declared.Check.the-variants.{Pass, Fail}
 use Rattle.march.specs.declared.Opened.{Opened}
 use Rattle.march.specs.Answers.{toldOf, ToldOpen, opened, toldOpen}
 use Rattle.march.specs.Checks.{freshState, LeftOpen, openOf, openedBy}

@@ -4,13 +4,13 @@
 use listing::Put;
 use march::Answer;
 use march::Call;
-use march::Check;
 use march::State;
 use reader::Cursor;
 use reader::Lines;
 use reader::Next;
 use reader::RecordStep;
 use reader::StartStep;
+use records::Check;
 use records::Closing;
 use records::Head;
 use records::Point;

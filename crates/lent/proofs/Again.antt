@@ -16,8 +16,8 @@ use Rattle.records.specs.Groups.{at, wholes}
 use Rattle.records.specs.Limits.{countOk, mostPoints}
 use Rattle.records.specs.Shapes.{Traverse, traverse, count}
 use Rattle.records.proofs.RefusalLaws.{number-above}
-use Rattle.march.specs.declared.Check.{Check}
-use Rattle.march.specs.declared.Check.the-variants.{Pass, Fail}
+use Rattle.records.specs.declared.Check.{Check}
+use Rattle.records.specs.declared.Check.the-variants.{Pass, Fail}
 use Rattle.march.specs.Answers.{opened, toldOpen}
 use Rattle.march.specs.Checks.{traverseCheck, freshState, openOf}
 use Rattle.reader.specs.declared.Cursor.{Cursor}

@@ -12,11 +12,11 @@ use Rattle.records.specs.declared.Refusal.{Refusal}
 use Rattle.records.specs.Refusals.{numberOf, refusal}
 use Rattle.records.specs.Limits.{mostPoints}
 use Rattle.records.specs.Shapes.{Traverse}
+use Rattle.records.specs.declared.Check.the-variants.{Pass, Fail}
 use Rattle.march.specs.declared.Call.{Call}
 use Rattle.march.specs.declared.Opened.{Opened}
 use Rattle.march.specs.declared.Taken.{Taken}
 use Rattle.march.specs.declared.Answer.the-variants.{Accepted, Refused}
-use Rattle.march.specs.declared.Check.the-variants.{Pass, Fail}
 use Rattle.march.specs.Answers.{refused}
 use Rattle.march.specs.Given.{Given, given}
 use Rattle.march.specs.Checks.{openOf, openedBy}

@@ -4,7 +4,7 @@ use super::numbers::buffers_ok;
 use super::numbers::refuse;
 use super::numbers::store_state;
 use super::numbers::store_three;
-use march::Check;
+use records::Check;
 use records::Head;
 ghost use Rattle.lent.specs.Calls.{leftOpen, Opens};
 

@@ -13,6 +13,8 @@ use lib.Signed.{leZ, _≤ℤ_}
 use Rattle.ranges.specs.Bounds.{Sized}
 use Rattle.ranges.proofs.Branches.{le-true}
 use Rattle.ranges.proofs.LinearSolver.{zomega, says, _&_}
+use Rattle.records.specs.declared.Check.{Check}
+use Rattle.records.specs.declared.Check.the-variants.{Pass, Fail}
 use Rattle.records.specs.declared.Station.{Station}
 use Rattle.records.specs.declared.Point.{Point}
 use Rattle.records.specs.declared.Row.{Row}
@@ -20,39 +22,15 @@ use Rattle.records.specs.declared.Kind.{Kind}
 use Rattle.records.specs.declared.Kind.the-variants.{Points, TraverseValue, Distance, Lent, RecordValue}
 use Rattle.records.specs.declared.Refusal.{Refusal}
 use Rattle.records.specs.Refusals.{refusal}
+use Rattle.records.specs.Chain.{need, _then_, firstBad, each}
 use Rattle.records.specs.Groups.{stationAt, pointCount, pointAt, rowCount, rowAt}
 use Rattle.records.specs.Rows.{rowFlux}
 use Rattle.records.specs.Shapes.{Traverse, Record, count}
 use Rattle.records.specs.Limits.{inside, countOk, latitudeOk, frictionOk, initialOk, headOk, distanceOk, bedOk, stationOk, lengthOk, shoreOk, tideOk, secondsOk, elapsedOk, windOk, angleOk, deficitOk, pointOk, fluxOk, crossOk, rowOk}
 use Rattle.records.proofs.LimitLaws.{and-left, and-right, and-both, le-flag, Between, between, within, range-between, range-within}
+use Rattle.records.proofs.ChainLaws.{need-passed, then-left, then-right, each-passed, none-first}
 use Rattle.march.specs.declared.State.{State}
-use Rattle.march.specs.declared.Check.{Check}
-use Rattle.march.specs.declared.Check.the-variants.{Pass, Fail}
-use Rattle.march.specs.Checks.{need, _then_, firstBad, each, stationsOk, spacingOk, traverseCheck, placesOk, rowsOk, lentCheck, timesOk, pointsOk, recordCheck, checksOf}
-use Rattle.march.proofs.FirstBad.{none-bad, all-ok}
-
--- ---- how checks follow each other
-
-never : (refusal : Refusal) → Fail refusal ≡ Pass → ⊥
-never refusal e = let z : _≡_ {A = ℕ} 0 1 = cc in omega arith
-
-need-passed : (b : Bool) (refusal : Refusal) → need b refusal ≡ Pass → b ≡ true
-need-passed true refusal e = refl
-need-passed false refusal e = absurd (never refusal e)
-
-pub then-left : (a b : Check) → (a then b) ≡ Pass → a ≡ Pass
-then-left Pass b e = refl
-then-left (Fail refusal) b e = e
-
-pub then-right : (a b : Check) → (a then b) ≡ Pass → b ≡ Pass
-then-right Pass b e = e
-then-right (Fail refusal) b e = absurd (never refusal e)
-
-pub each-passed : (kind : Kind) (ok : ℕ → Bool) (n : ℕ) → each kind ok n ≡ Pass → (i : ℕ) → i < n → ok i ≡ true
-each-passed kind ok n e i h = none-bad ok n 0 (eqb-true _ 0 (need-passed _ (refusal kind (firstBad ok n 0)) e)) i (omega arith) (omega arith)
-
-none : (ok : ℕ → Bool) (n : ℕ) → ((i : ℕ) → i < n → ok i ≡ true) → firstBad ok n 0 ≡ 0
-none ok n f = all-ok ok n 0 (λ j h l. f j (omega arith))
+use Rattle.march.specs.Checks.{stationsOk, spacingOk, traverseCheck, placesOk, rowsOk, lentCheck, timesOk, pointsOk, recordCheck, checksOf}
 
 -- ---- flags
 
@@ -180,8 +158,8 @@ traverse-passes most t v =
       within (pos 0) (pos 900) (t .head .latitude) (v .latitude),
       within (pos 10) (pos 50) (t .head .friction) (v .friction),
       within (negsuc 999) (pos 1000) (t .head .initial) (v .initial),
-      none (stationsOk (t .points)) (count t) (λ i h. station-ok (stationAt (t .points) i) (v .stations i h)),
-      none (spacingOk (count t) (t .points)) (count t) (spacing-ok most t v),
+      none-first (stationsOk (t .points)) (count t) (λ i h. station-ok (stationAt (t .points) i) (v .stations i h)),
+      none-first (spacingOk (count t) (t .points)) (count t) (spacing-ok most t v),
     )
 
 -- ---- what is lent with a record
@@ -253,7 +231,7 @@ module _ (points given : ℕ) (rows : List ℤ) (places : ℕ) where
         eq-eqb (rowCount rows) (points - 1) (v .rows-are),
         eq-eqb given points (v .given-is),
         v .places-are,
-        none (rowsOk rows) (points - 1) (λ i h. row-ok (rowAt rows i) (v .each-row i h)),
+        none-first (rowsOk rows) (points - 1) (λ i h. row-ok (rowAt rows i) (v .each-row i h)),
       )
 
 -- ---- a record
@@ -344,7 +322,7 @@ module _ (n : ℕ) (r : Record) (st : State) where
         within (negsuc 1999) (pos 2000) (r .closing .tide) (v .tide),
         within (pos 0) (pos 1000000000) (st .elapsed) (v .elapsed),
         within (pos 0) (pos 1000000000) (st .elapsed +ℤ r .closing .seconds) (v .new-elapsed),
-        none (pointsOk (r .points)) n (λ i h. point-ok (pointAt (r .points) i) (v .points i h)),
+        none-first (pointsOk (r .points)) n (λ i h. point-ok (pointAt (r .points) i) (v .points i h)),
       )
 
 -- ---- all of them

@@ -16,6 +16,8 @@ use Rattle.records.specs.declared.Refusal.{Refusal}
 use Rattle.records.specs.Rows.{rowFlux}
 use Rattle.records.specs.Shapes.{Traverse, Record}
 use Rattle.records.proofs.GroupLaws.{groups-list, row-flat}
+use Rattle.records.specs.declared.Check.{Check}
+use Rattle.records.specs.declared.Check.the-variants.{Pass, Fail}
 use Rattle.segment.specs.declared.Leg.{Leg}
 use Rattle.segment.specs.declared.SegmentAnswer.the-variants.{On}
 use Rattle.segment.specs.Segment.{segmentOf, segmentSetup, SiteIn, WeatherIn}
@@ -24,8 +26,6 @@ use Rattle.segment.proofs.SegmentLaws.{Passed as SegmentPassed, segment-on}
 use Rattle.segment.proofs.SegmentRanges.{segment-outward}
 use Rattle.segment.proofs.SegmentInclusion.{segment-within}
 use Rattle.march.specs.declared.State.{State}
-use Rattle.march.specs.declared.Check.{Check}
-use Rattle.march.specs.declared.Check.the-variants.{Pass, Fail}
 use Rattle.march.specs.Given.{Given, segments}
 use Rattle.march.specs.Checks.{checkOf, openOf}
 use Rattle.march.specs.March.{March, stopped, done, segmentAt, marchOf, siteAt, weatherAt, workingRow, noSetup}

@@ -1,5 +1,4 @@
 -- The laws that the proofs of `march` and of the crates above cite.
-pub mod FirstBad
 pub mod ChecksPassed
 pub mod LegLaws
 pub mod MarchFits

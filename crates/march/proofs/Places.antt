@@ -18,6 +18,9 @@ use Rattle.records.specs.Refusals.{refusal}
 use Rattle.records.specs.Groups.{pointCount, rowCount}
 use Rattle.records.specs.Shapes.{Traverse, Record, count}
 use Rattle.records.specs.Limits.{countOk, headOk, waterOk, fluxOk, setupOk}
+use Rattle.records.specs.declared.Check.{Check}
+use Rattle.records.specs.declared.Check.the-variants.{Pass, Fail}
+use Rattle.records.specs.Chain.{need, _then_, each, firstBad}
 use Rattle.segment.specs.declared.Leg.{Leg}
 use Rattle.segment.specs.declared.Site.{Site}
 use Rattle.segment.specs.declared.Weather.{Weather}
@@ -25,11 +28,9 @@ use Rattle.segment.specs.declared.SegmentAnswer.{SegmentAnswer}
 use Rattle.segment.specs.declared.SegmentAnswer.the-variants.{On, Stop}
 use Rattle.segment.specs.Segment.{segmentOf, segmentDepth, segmentFlux, segmentSetup, legOf}
 use Rattle.march.specs.declared.State.{State}
-use Rattle.march.specs.declared.Check.{Check}
-use Rattle.march.specs.declared.Check.the-variants.{Pass, Fail}
 use Rattle.march.specs.Answers.{accepted, refused, opened, notOpened, toldOpen}
 use Rattle.march.specs.Given.{Given, segments}
-use Rattle.march.specs.Checks.{need, _then_, each, firstBad, stationsOk, spacingOk, placesOk, rowsOk, timesOk, pointsOk, traverseCheck, lentCheck, recordCheck, checksOf, checkOf, openOf}
+use Rattle.march.specs.Checks.{stationsOk, spacingOk, placesOk, rowsOk, timesOk, pointsOk, traverseCheck, lentCheck, recordCheck, checksOf, checkOf, openOf}
 use Rattle.march.specs.March.{March, stopped, done, before, further, marchBy, segmentAt, noSetup, siteAt, weatherAt, workingRow}
 use Rattle.march.specs.Take.{marchGiven, afterChecks, afterMarch, takeOf}
 

@@ -12,6 +12,8 @@ use lib.IntN.{ℤ, pos}
 use lib.Signed.{leZ-yes}
 use Rattle.ranges.specs.Bounds.{Sized}
 use Rattle.ranges.proofs.Fits.{sized-add, sized-mul, sized-literal, sized-fits}
+use Rattle.records.specs.declared.Check.{Check}
+use Rattle.records.specs.declared.Check.the-variants.{Pass, Fail}
 use Rattle.forcing.proofs.StressLaws.{sized-wider}
 use Rattle.records.specs.declared.Refusal.{Refusal}
 use Rattle.records.specs.Groups.{pointAt, ofRow, groups, flat}
@@ -20,8 +22,6 @@ use Rattle.records.proofs.GroupLaws.{wholes-exact, groups-length, flat-length}
 use Rattle.records.proofs.LimitLaws.{nn-sized}
 use Rattle.segment.specs.declared.Leg.{Leg}
 use Rattle.segment.specs.Segment.{SetupIn, shoreBase}
-use Rattle.march.specs.declared.Check.{Check}
-use Rattle.march.specs.declared.Check.the-variants.{Pass, Fail}
 use Rattle.march.specs.declared.Answer.the-variants.{Refused}
 use Rattle.march.specs.declared.Taken.{Taken}
 use Rattle.march.specs.Answers.{refused}

@@ -3,8 +3,8 @@
 use Prim.Native.Nat.{ℕ}
 use lib.IntN.{ℤ}
 use Rattle.records.specs.Refusals.{numberOf}
-use Rattle.march.specs.declared.Check.{Check}
-use Rattle.march.specs.declared.Check.the-variants.{Pass, Fail}
+use Rattle.records.specs.declared.Check.{Check}
+use Rattle.records.specs.declared.Check.the-variants.{Pass, Fail}
 use Rattle.march.specs.declared.Answer.{Answer}
 use Rattle.march.specs.declared.Answer.the-variants.{Accepted, Refused}
 

@@ -1,47 +1,23 @@
 -- Checks 5 to 9, in the order of document 01's table "Where each check is made": a row of the table to a line here. "Checks run down the table,
 -- earliest point or row first."
-use mathlib.Core.Bool.{Bool, true, false, _&&_, _||_, not, cond}
+use mathlib.Core.Bool.{Bool, false, _&&_, _||_, not}
 use mathlib.Core.List.{List}
-use Prim.Native.Nat.{ℕ, zero, suc, _+_, _-_, _*_}
+use Prim.Native.Nat.{ℕ, _+_, _-_, _*_}
 use lib.Dec.{eqb}
 use lib.ListN.{length}
 use lib.IntN.{ℤ, pos, _+ℤ_, _-ℤ_}
+use Rattle.records.specs.declared.Check.{Check}
 use Rattle.records.specs.declared.Closing.{Closing}
-use Rattle.records.specs.declared.Kind.{Kind}
 use Rattle.records.specs.declared.Kind.the-variants.{Points, TraverseValue, Distance, Lent, RecordValue}
-use Rattle.records.specs.declared.Refusal.{Refusal}
 use Rattle.records.specs.Refusals.{refusal}
+use Rattle.records.specs.Chain.{need, _then_, each}
 use Rattle.records.specs.Groups.{stationAt, pointCount, pointAt, rowCount, rowAt}
 use Rattle.records.specs.Shapes.{Traverse, Record, count}
 use Rattle.records.specs.Limits.{countOk, headOk, stationOk, lengthOk, shoreOk, rowOk, secondsOk, tideOk, elapsedOk, pointOk}
 use Rattle.march.specs.declared.State.{State}
 use Rattle.march.specs.declared.Opened.{Opened}
-use Rattle.march.specs.declared.Check.{Check}
-use Rattle.march.specs.declared.Check.the-variants.{Pass, Fail}
 use Rattle.march.specs.Answers.{ToldOpen, toldOpen}
 use Rattle.march.specs.Given.{Given}
-
--- ---- how checks follow each other
-
--- a condition, or its refusal
-abbrev pub need : Bool → Refusal → Check
-need true refusal = Pass
-need false refusal = Fail refusal
-
--- the first that fails decides
-infixr 20 _then_
-abbrev pub _then_ : Check → Check → Check
-Pass then c = c
-Fail refusal then c = Fail refusal
-
--- the first of n places from i on that is bad, counted from 1; 0 where there is none
-unfoldable pub firstBad : (ℕ → Bool) → ℕ → ℕ → ℕ
-firstBad ok zero i = 0
-firstBad ok (suc n) i = cond (ok i) (firstBad ok n (i + 1)) (i + 1)
-
--- each of n places, or the refusal of a kind at the first bad one
-abbrev pub each : Kind → (ℕ → Bool) → ℕ → Check
-each kind ok n = need (eqb (firstBad ok n 0) 0) (refusal kind (firstBad ok n 0))
 
 -- ---- a traverse
 

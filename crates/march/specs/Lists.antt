@@ -8,9 +8,9 @@ use lib.IntN.{ℤ, pos, _+ℤ_}
 use Rattle.records.specs.declared.Refusal.{Refusal}
 use Rattle.records.specs.Refusals.{numberOf}
 use Rattle.records.specs.Shapes.{Traverse}
+use Rattle.records.specs.declared.Check.the-variants.{Pass, Fail}
 use Rattle.segment.specs.declared.Leg.{Leg}
 use Rattle.march.specs.declared.State.{State}
-use Rattle.march.specs.declared.Check.the-variants.{Pass, Fail}
 use Rattle.march.specs.Answers.{refused}
 use Rattle.march.specs.Given.{Given}
 use Rattle.march.specs.Checks.{checkOf}

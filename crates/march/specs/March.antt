@@ -5,6 +5,8 @@ use Prim.Native.Nat.{ℕ, zero, suc, _+_, _*_}
 use lib.IntN.{ℤ, pos, _+ℤ_, _-ℤ_}
 use lib.Seq.{sets}
 use Rattle.ranges.specs.declared.Range.{Range}
+use Rattle.records.specs.declared.Check.{Check}
+use Rattle.records.specs.declared.Check.the-variants.{Pass, Fail}
 use Rattle.forcing.specs.Quadrant.{sineOf}
 use Rattle.forcing.specs.Stress.{crossOf, onshoreOf}
 use Rattle.records.specs.declared.Head.{Head}
@@ -24,8 +26,6 @@ use Rattle.segment.specs.declared.SegmentAnswer.the-variants.{On, Stop}
 use Rattle.segment.specs.Segment.{segmentOf}
 use Rattle.march.specs.declared.End.{End}
 use Rattle.march.specs.declared.Setting.{Setting}
-use Rattle.march.specs.declared.Check.{Check}
-use Rattle.march.specs.declared.Check.the-variants.{Pass, Fail}
 
 -- ---- what segment i, from 0, is given by the traverse. It lies between the points i and i + 1
 

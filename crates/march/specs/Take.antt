@@ -11,11 +11,11 @@ use Rattle.records.specs.Refusals.{numberOf}
 use Rattle.records.specs.Groups.{pointAt, ofRow, ofRange, flat}
 use Rattle.records.specs.Rows.{freshRow}
 use Rattle.records.specs.Shapes.{Traverse, Record}
+use Rattle.records.specs.declared.Check.{Check}
+use Rattle.records.specs.declared.Check.the-variants.{Pass, Fail}
 use Rattle.segment.specs.declared.Leg.{Leg}
 use Rattle.segment.specs.Segment.{shoreBase}
 use Rattle.march.specs.declared.State.{State}
-use Rattle.march.specs.declared.Check.{Check}
-use Rattle.march.specs.declared.Check.the-variants.{Pass, Fail}
 use Rattle.march.specs.declared.Taken.{Taken}
 use Rattle.march.specs.Answers.{Told, accepted, refused, toldOf}
 use Rattle.march.specs.Given.{Given, segments}

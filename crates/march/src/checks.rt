@@ -1,9 +1,9 @@
 // Checks 5 to 9 of document 01, in the order of its table: the first that fails decides, and within it the first bad point or row.
 // All that is looked at is the caller's and may hold anything; nothing overflows on it and nothing past a slice is read.
 use super::Call;
-use super::Check;
 use super::Opened;
 use super::State;
+use records::Check;
 use records::Closing;
 use records::Head;
 use records::Kind;
@@ -37,7 +37,8 @@ ghost use lib.IntN.{pos, _-ℤ_};
 ghost use Rattle.ranges.specs.Bounds.{Sized};
 ghost use Rattle.records.specs.Limits.{lengthOk, shoreOk, mostPoints};
 ghost use Rattle.records.specs.Shapes.{traverse, storm};
-ghost use Rattle.march.specs.Checks.{firstBad, stationsOk, spacingOk, traverseCheck, openOf, openedBy, placesOk, rowsOk, lentCheck, timesOk, pointsOk, recordCheck, checksOf};
+ghost use Rattle.records.specs.Chain.{firstBad};
+ghost use Rattle.march.specs.Checks.{stationsOk, spacingOk, traverseCheck, openOf, openedBy, placesOk, rowsOk, lentCheck, timesOk, pointsOk, recordCheck, checksOf};
 
 // ---- a traverse
 

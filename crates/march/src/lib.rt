@@ -1,6 +1,7 @@
 // The march of a storm over a traverse, in ranges: opening a traverse and taking a record, on numbers that the caller lends.
 // Two numbers are a point of the traverse, three a point of the record, three a row, two a setup range; a length that is no whole number
 // of them counts as none. Limits and refusals are document 01's; every call equals a definition of `specs/`.
+use records::Check;
 use records::Closing;
 use records::Head;
 use records::Refusal;
@@ -24,12 +25,6 @@ pub struct Call {
     pub head: Head,
     pub closing: Closing,
     pub state: State,
-}
-
-// Whether checks pass.
-pub enum Check {
-    Pass,
-    Fail(Refusal),
 }
 
 // What opening a traverse answers. Where it is refused, the state is that of a fresh traverse and of no use.

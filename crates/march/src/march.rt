@@ -1,11 +1,11 @@
 // The march over the segments, from sea to shore, in scratch: nothing that the caller lent is touched. Each point is looked at once, and its
 // wind's stress worked out once, for the segment that ends there and the one that begins.
 use super::Call;
-use super::Check;
 use super::End;
 use super::Setting;
 use super::legs::store_leg;
 use ranges::Range;
+use records::Check;
 use records::Row;
 use records::groups::point_at;
 use records::groups::row_at;

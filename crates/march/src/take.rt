@@ -1,13 +1,13 @@
 // Taking a record: checks, march, and only then the commit to rows and setup places.
 use super::Answer;
 use super::Call;
-use super::Check;
 use super::State;
 use super::Taken;
 use super::checks::check_all;
 use super::legs::leg_at;
 use super::legs::store_setup;
 use super::march::march;
+use records::Check;
 use records::Row;
 use records::groups::point_at;
 use records::groups::store_row;

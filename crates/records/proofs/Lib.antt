@@ -2,3 +2,5 @@
 pub mod LimitLaws
 pub mod GroupLaws
 pub mod RefusalLaws
+pub mod FirstBad
+pub mod ChainLaws

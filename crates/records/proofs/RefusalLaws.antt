@@ -2,7 +2,7 @@
 use native.Mathlib.Omega.{arith}
 use Prim.Native.Nat.{_<_}
 use Rattle.records.specs.declared.Kind.{Kind}
-use Rattle.records.specs.declared.Kind.the-variants.{Names, Malformed, Ended, Differs, Points, TraverseValue, Distance, Lent, RecordValue, Depth, Flux, Setup}
+use Rattle.records.specs.declared.Kind.the-variants.{Names, Malformed, Ended, Differs, Points, TraverseValue, Distance, Lent, RecordValue, Depth, Flux, Setup, StormValue, WindRadii}
 use Rattle.records.specs.Refusals.{numberOf}
 
 -- none is 0, which says that there is none
@@ -19,3 +19,5 @@ number-above RecordValue = omega arith
 number-above Depth = omega arith
 number-above Flux = omega arith
 number-above Setup = omega arith
+number-above StormValue = omega arith
+number-above WindRadii = omega arith

@@ -1,5 +1,6 @@
 -- The root of the definitions of `records`.
 pub mod Refusals
+pub mod Chain
 pub mod Groups
 pub mod Rows
 pub mod Shapes

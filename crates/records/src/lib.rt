@@ -76,8 +76,8 @@ impl Row {
     }
 }
 
-// What is refused, in the order of document 01's table: checks 1 to 4 are those of a file's text, 5 to 7 of a traverse, 8 and 9 of a
-// record, 10 to 12 of the march.
+// What is refused, by number. Checks 1 to 12 are document 01's: 1 to 4 those of a file's text, 5 to 7 of a traverse, 8 and 9 of a record,
+// 10 to 12 of the march. 13 and 14 are document 02's, of what a storm record is made from.
 pub enum Kind {
     Names,
     Malformed,
@@ -91,10 +91,12 @@ pub enum Kind {
     Depth,
     Flux,
     Setup,
+    StormValue,
+    WindRadii,
 }
 
 impl Kind {
-    // Document 01's number.
+    // The papers' number.
     pub fn number(self) -> u64
         ensures { λ n. ⌜ n ≡ numberOf self ⌝ }
     {
@@ -111,22 +113,30 @@ impl Kind {
             Kind::Depth => 10,
             Kind::Flux => 11,
             Kind::Setup => 12,
+            Kind::StormValue => 13,
+            Kind::WindRadii => 14,
         }
     }
 }
 
-// A refusal: its kind and its place, which is a line, a count of points, a point, a row or a segment, from 1; 0 where the table says so.
+// A refusal: its kind and its place, which is a line, a count of points, a point, a row or a segment, from 1; 0 where the papers say so.
 pub struct Refusal {
     pub kind: Kind,
     pub place: usize,
 }
 
 impl Refusal {
-    // Document 01's number of its kind.
+    // The number of its kind.
     pub fn number(self) -> u64
         ensures { λ n. ⌜ n ≡ numberOf (self .kind) ⌝ }
     {
         let kind = self.kind;
         kind.number()
     }
+}
+
+// Whether checks pass.
+pub enum Check {
+    Pass,
+    Fail(Refusal),
 }

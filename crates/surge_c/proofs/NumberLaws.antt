@@ -15,12 +15,13 @@ use Rattle.records.specs.Refusals.{refusal}
 use Rattle.records.specs.Groups.{wholes, rowCount}
 use Rattle.records.specs.Limits.{mostPoints}
 use Rattle.records.specs.Shapes.{Traverse, traverse}
+use Rattle.records.specs.declared.Check.{Check}
+use Rattle.records.specs.declared.Check.the-variants.{Pass, Fail}
+use Rattle.records.specs.Chain.{_then_}
 use Rattle.march.specs.declared.Call.{Call}
-use Rattle.march.specs.declared.Check.{Check}
-use Rattle.march.specs.declared.Check.the-variants.{Pass, Fail}
 use Rattle.march.specs.Answers.{Told, accepted, refused}
 use Rattle.march.specs.Given.{given, segments}
-use Rattle.march.specs.Checks.{_then_, traverseCheck}
+use Rattle.march.specs.Checks.{traverseCheck}
 use Rattle.march.specs.Take.{afterChecks, takeOf}
 use Rattle.march.specs.Take as march
 use Rattle.march.proofs.ChecksPassed.{traverse-in}

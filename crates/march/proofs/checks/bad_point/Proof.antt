@@ -6,8 +6,8 @@ use native.Mathlib.Omega.{arith}
 use Prim.Native.Nat.{_-_}
 use Rattle.records.specs.Groups.{pointAt}
 use Rattle.records.specs.Limits.{pointOk}
+use Rattle.records.proofs.FirstBad.{SearchInv, search-start, search-on, search-hit, search-none}
 use Rattle.march.specs.Checks.{pointsOk}
-use Rattle.march.proofs.FirstBad.{SearchInv, search-start, search-on, search-hit, search-none}
 use Rattle.march.proofs.checks.bad_point.Statement.{statement}
 use Rattle.march.proofs.checks.bad_point.Tie as tie
 

@@ -18,8 +18,8 @@ use Rattle.records.specs.declared.Station.{Station}
 use Rattle.records.specs.Groups.{stationAt}
 use Rattle.records.specs.Limits.{lengthOk, shoreOk}
 use Rattle.records.proofs.LimitLaws.{nn-sized}
+use Rattle.records.proofs.FirstBad.{SearchInv, search-start, search-on, search-hit, search-none, none-bad}
 use Rattle.march.specs.Checks.{stationsOk, spacingOk}
-use Rattle.march.proofs.FirstBad.{SearchInv, search-start, search-on, search-hit, search-none, none-bad}
 use Rattle.march.proofs.ChecksPassed.{station-in}
 use Rattle.march.proofs.checks.bad_spacing.Statement.{statement}
 use Rattle.march.proofs.checks.bad_spacing.Tie as tie

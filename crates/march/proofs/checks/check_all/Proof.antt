@@ -6,7 +6,7 @@ use lib.ListN.{length}
 use Rattle.records.specs.Groups.{pointCount}
 use Rattle.records.specs.Shapes.{traverse, storm, count}
 use Rattle.records.proofs.GroupLaws.{wholes-fit}
-use Rattle.march.specs.declared.Check.the-variants.{Pass}
+use Rattle.records.specs.declared.Check.the-variants.{Pass}
 use Rattle.march.specs.Checks.{checksOf, traverseCheck, lentCheck, recordCheck}
 use Rattle.march.proofs.ChecksPassed.{traverse-in, lent-in}
 use Rattle.march.proofs.checks.check_all.Statement.{statement}

@@ -11,7 +11,7 @@ use mir.Val.{SFits}
 use borrow.Author.Needs.{sfits-of}
 use Rattle.records.specs.Shapes.{Traverse, Record, traverse, storm}
 use Rattle.records.proofs.GroupLaws.{wholes-exact}
-use Rattle.march.specs.declared.Check.the-variants.{Pass}
+use Rattle.records.specs.declared.Check.the-variants.{Pass}
 use Rattle.march.specs.Given.{Given, given, segments}
 use Rattle.march.specs.Checks.{placesOk, checkOf}
 use Rattle.march.specs.MarchBounds.{MarchIn}
