@@ -1,0 +1,2 @@
+-- The laws of `hurricane`.
+pub mod FactorTable
