@@ -53,12 +53,10 @@ pub table-fits : {z : ℤ} → InTable z → SFits w64 z
 table-fits {z} i = let l = i .low in let k = i .high in zomega (z ∷ []) (l & k) (search says depth 20) (omega arith)
 
 pub table-cast : (z : ℤ) → InTable z → T (nonNeg z) × Fits w64 (natAbs z)
-table-cast (pos n) i = let k = i .high in (tt, record { fits = omega (arith, leb→le n 900 (k .le)) })
-table-cast (negsuc n) i = let l = i .low in absurd (l .le)
+table-cast z i = nn-cast z 900 (omega arith) (i .low) (i .high)
 
 table-place : (z : ℤ) → InTable z → natAbs z < 901
-table-place (pos n) i = let k = i .high in omega (arith, leb→le n 900 (k .le))
-table-place (negsuc n) i = let l = i .low in absurd (l .le)
+table-place z i = let m = abs-most z 900 (i .low) (i .high) in omega arith
 
 -- the quadrant of an angle: the definition's tests there, and the place
 pub record First (a : ℤ) : Type 0 where

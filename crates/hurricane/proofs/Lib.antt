@@ -1,2 +1,4 @@
--- The laws of `hurricane`.
+-- The laws of `hurricane`, which its proofs and those of the crates above cite.
 pub mod FactorTable
+pub mod FieldLaws
+pub mod MakeLaws

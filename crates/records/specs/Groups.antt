@@ -41,6 +41,12 @@ pointCount l = wholes 3 (length l)
 unfoldable pub pointAt : List ℤ → ℕ → Point
 pointAt l i = record { wind = at l (3 * i); angle = at l (3 * i + 1); deficit = at l (3 * i + 2) }
 
+abbrev pub ofPoint : Point → List ℤ
+ofPoint p = p .wind ∷ p .angle ∷ p .deficit ∷ []
+
+unfoldable pub putPoint : List ℤ → ℕ → Point → List ℤ
+putPoint l i p = sets l (3 * i) (ofPoint p)
+
 -- ---- a row: "flux low, flux high, and the last sum of the two cross stresses"
 
 abbrev pub rowCount : List ℤ → ℕ

@@ -5,7 +5,7 @@ use super::Station;
 ghost use mathlib.Core.Path.{_≡_};
 ghost use Prim.Native.Nat.{_+_, _*_, _<_};
 ghost use lib.ListN.{length};
-ghost use Rattle.records.specs.Groups.{wholes, stationAt, pointAt, rowAt, putStation, putRow};
+ghost use Rattle.records.specs.Groups.{wholes, stationAt, pointAt, rowAt, putStation, putPoint, putRow};
 
 // How many groups of `width` so many numbers are; a length that is no multiple counts as none.
 pub fn whole_groups(width: usize, len: usize) -> usize
@@ -55,6 +55,19 @@ pub fn point_at(storm: &[i64], i: usize) -> Point
         angle: angle,
         deficit: deficit,
     }
+}
+
+pub fn store_point(storm: &mut [i64], i: usize, point: Point)
+    requires { ⌜ 3 * i + 2 < length (now storm) ⌝ }
+    ensures { λ _. ⌜ now (storm .exit) ≡ putPoint (now (storm .entry)) i point ⌝ }
+{
+    let at = Point::NUMBERS * i;
+    let wind = point.wind;
+    let angle = point.angle;
+    let deficit = point.deficit;
+    storm[at] = wind;
+    storm[at + 1] = angle;
+    storm[at + 2] = deficit;
 }
 
 pub fn row_at(rows: &[i64], i: usize) -> Row
