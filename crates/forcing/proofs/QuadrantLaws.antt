@@ -13,6 +13,7 @@ use mir.Val.{SFits, Fits}
 use Rattle.ranges.specs.Bounds.{Sized}
 use Rattle.ranges.specs.Fraction.{_/F_}
 use Rattle.ranges.proofs.Branches.{le-true, lt-true, lt-false}
+use Rattle.ranges.proofs.Fits.{abs-most, nn-cast}
 use Rattle.ranges.proofs.IntegerOrder.{le-or-gt}
 use Rattle.ranges.proofs.RingSolver.{ring, reify}
 use Rattle.ranges.proofs.LinearSolver.{zomega, says, _&_}

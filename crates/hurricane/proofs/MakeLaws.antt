@@ -1,5 +1,5 @@
 -- What the checks of a record that is to be made let pass, as plain facts, and what the call then leaves. Assumes nothing.
-use mathlib.Core.Path.{_≡_, refl}
+use mathlib.Core.Path.{_≡_, refl, ap, _∙_}
 use mathlib.Core.Bool.{true, _&&_}
 use mathlib.Core.List.{List, _++_}
 use native.Mathlib.Omega.{arith}
@@ -15,23 +15,24 @@ use Rattle.records.specs.declared.Check.the-variants.{Pass, Fail}
 use Rattle.records.specs.declared.Closing.{Closing}
 use Rattle.records.specs.declared.Kind.the-variants.{Lent, StormValue, WindRadii}
 use Rattle.records.specs.Chain.{need, _then_, each}
-use Rattle.records.specs.Limits.{countOk, mostPoints, windOk, angleOk}
+use Rattle.records.specs.Groups.{pointAt, ofPoint, groups}
+use Rattle.records.specs.Limits.{countOk, mostPoints, windOk, angleOk, pointOk}
 use Rattle.records.specs.Refusals.{refusal}
 use Rattle.records.proofs.ChainLaws.{need-passed, then-left, then-right, each-passed}
-use Rattle.records.proofs.GroupLaws.{groups-same}
-use Rattle.records.proofs.LimitLaws.{and-left, and-right, between, sized}
+use Rattle.records.proofs.GroupLaws.{groups-same, groups-length, groups-at, flat-length, point-flat}
+use Rattle.records.proofs.LimitLaws.{and-left, and-right, Between, between, within, sized}
 use Rattle.hurricane.specs.declared.Hurricane.{Hurricane}
 use Rattle.hurricane.specs.declared.WindRow.{WindRow}
 use Rattle.hurricane.specs.declared.PlanePoint.{PlanePoint}
 use Rattle.hurricane.specs.Bounds.{DropIn, HurricaneIn, WindRowIn, WindsIn, PlanePointIn, SitesIn, TableIn}
 use Rattle.hurricane.specs.Factor.{TableRight}
-use Rattle.hurricane.specs.Field.{distanceOf, hundredthsOf, deficitOf, pointFor}
+use Rattle.hurricane.specs.Field.{distanceOf, hundredthsOf, deficitOf, windOf, pointFor}
 use Rattle.hurricane.specs.Groups.{windCount, windRowAt, siteCount, planePointAt}
 use Rattle.hurricane.specs.Limits.{pressureOk, dropOk, pressuresOk, radiusOk, planeOk, hurricaneOk, windCountOk, windRadiusOk, windRowOk, planePointOk}
 use Rattle.hurricane.specs.Checks.{windRowsOk, sitesOk, risingOk, makeCheck}
 use Rattle.hurricane.specs.Make.{Asked, asked, made, LeftMade, checkOf, pointMade, madeNumbers, afterCheck, makeOf}
 use Rattle.hurricane.proofs.FactorTable.{right-rule}
-use Rattle.hurricane.proofs.FieldLaws.{hundredths-place}
+use Rattle.hurricane.proofs.FieldLaws.{hundredths-place, share-in, wind-in}
 
 -- ---- each kind of value
 
@@ -164,3 +165,33 @@ table-in table r = record {
   low = λ m h. right-rule table r m h .low;
   high = λ m h. right-rule table r m h .high;
 }
+
+-- ---- of what is made
+
+-- every point is within the limits of a record's
+module _ (a : Asked) (limits : (m : ℕ) → m < 1001 → Between (pos 0) (pos 10000) (a .factor m)) (e : checkOf a ≡ Pass) where
+  pub point-in : (i : ℕ) → i < siteCount (a .sites) → pointOk (pointMade a i) ≡ true
+  unfolding pointOk pointFor deficitOf
+  point-in i l =
+      let v = make-in (a .hurricane) (a .winds) (a .sites) (length (a .room)) e in
+      let h = v .hurricane in
+      let p = planePointAt (a .sites) i in
+      let q = v .sites-in i l in
+      let r = distanceOf (a .hurricane .x) (a .hurricane .y) (p .x) (p .y) in
+      let m = natAbs (hundredthsOf (a .hurricane .radius) r) in
+      let drop : Between (pos 0) (pos 300) (a .hurricane .edge -ℤ a .hurricane .central) = record { from = h .drop .low; to = h .drop .high } in
+      let factor = limits m (hundredths-place (a .hurricane .radius) r (h .radius-low) (h .radius-high)) in
+      rw (
+        within (pos 0) (pos 2000) (windOf (a .winds) r) (wind-in (a .winds) (v .winds-in) r),
+        within (pos 0) (pos 3599) (p .angle) (record { from = q .angle-low; to = q .angle-high }),
+        within (pos 0) (pos 300) _ (share-in (a .hurricane .edge -ℤ a .hurricane .central) (a .factor m) drop factor),
+      )
+
+  -- the record's numbers are as many, and these points
+  pub made-length : length (madeNumbers a) ≡ 3 * siteCount (a .sites)
+  made-length = flat-length 3 ofPoint (groups (pointMade a) (siteCount (a .sites))) (λ p. refl) ∙ ap (λ (n : ℕ). 3 * n) (groups-length (pointMade a) (siteCount (a .sites)))
+
+  pub made-point : (i : ℕ) → i < siteCount (a .sites) → pointAt (madeNumbers a) i ≡ pointMade a i
+  made-point i l =
+      let n = groups-length (pointMade a) (siteCount (a .sites)) in
+      point-flat (groups (pointMade a) (siteCount (a .sites))) (pointMade a 0) i (omega arith) ∙ groups-at (pointMade a) (pointMade a 0) (siteCount (a .sites)) i l

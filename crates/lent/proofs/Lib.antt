@@ -2,4 +2,5 @@
 pub mod Sets
 pub mod CallLaws
 pub mod TextLaws
+pub mod MakingLaws
 pub mod Again

@@ -2,4 +2,5 @@
 pub mod Numbers
 pub mod Calls
 pub mod Texts
+pub mod Making
 pub mod Again

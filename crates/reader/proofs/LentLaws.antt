@@ -3,7 +3,6 @@ use mathlib.Core.Path.{_≡_, refl, sym, ap, subst, _∙_}
 use mathlib.Core.Bool.{Bool, true, false, cond, _&&_}
 use mathlib.Core.List.{List, []}
 use Prim.Native.Nat.{ℕ, zero, suc, _+_, _-_, _*_, _<_, _≤_}
-use native.Mathlib.Nat.{mul-mod-right, mul-div-right}
 use native.Mathlib.Omega.{arith}
 use lib.ListN.{length, take, drop, length-append, length-drop, List·getD-append}
 use lib.Seq.{length-take-le, drop-append-le, drop-append-add, drop-drop, take-at}
@@ -12,8 +11,8 @@ use lib.IntN.{ℤ, pos}
 use borrow.Author.Tests.{ltb-false}
 use Rattle.records.specs.declared.Kind.the-variants.{Ended, Points, Lent}
 use Rattle.records.specs.Refusals.{refusal}
-use Rattle.records.specs.Groups.{wholes}
 use Rattle.records.specs.Limits.{countOk, mostPoints}
+use Rattle.records.proofs.GroupLaws.{wholes-times}
 use Rattle.reader.specs.Lines.{Outcome, read, refused, found, Leaves, leaves, laid, LinesRead}
 use Rattle.reader.specs.Storm.{recordOf, recordSize, recordIn, recordLines, Further, one, none, nextAt, keptAt, nextOf, tooFew, nextLeft, holdsRecord, needs-more, seen, recordStep, recordStepLeft}
 use Rattle.reader.specs.Lent.{Spared, NextSpares, HasRecord, NextHasRecord, seenAnswer, StepAnswers, StepSpares, StepHasRecord}
@@ -27,12 +26,6 @@ use Rattle.reader.specs.declared.storm.RecordStep.the-variants as step
 use Rattle.reader.proofs.Laws.{numberPlace}
 use Rattle.reader.proofs.StormLaws.{counts-in}
 use Rattle.reader.proofs.KeptLaws.{LinesSize, AnswerSize, lines-size}
-
--- ---- groups
-
-pub wholes-times : (width n : ℕ) → 0 < width → wholes width (width * n) ≡ n
-unfolding wholes
-wholes-times width n h = rw (mul-mod-right width n) (mul-div-right n h)
 
 -- ---- what was kept, laid into the lent numbers
 

@@ -17,6 +17,7 @@ use Rattle.records.specs.Groups.{wholes, stationAt, stationCount, ofStation, pu
 use Rattle.records.specs.Limits.{countOk, mostPoints}
 use Rattle.records.specs.Shapes.{Traverse, traverse, count}
 use Rattle.records.proofs.GroupLaws.{wholes-fit, sets-take}
+use Rattle.records.proofs.GroupLaws.{wholes-times}
 use Rattle.reader.specs.Text.{more}
 use Rattle.reader.specs.Lines.{Outcome, read, refused, found, Leaves, leaves, namesAt, holds}
 use Rattle.reader.specs.Traverse.{headNames, pointNames, Held, held, start, expecting, withValues, storedAt, oneMore, withPoint, valueLine, lineBy, lineAt, countedBy, endBy, endAt, endOf, onRest, restBy, restAt, traverseRead, traverseLeft, noHead, noPoints, traverseBy, traverseOf, endStep, endLeft, onStep, moreStep, stepAt, traverseStep}
@@ -31,7 +32,6 @@ use Rattle.reader.specs.declared.traverse.Progress.the-variants as progr
 use Rattle.reader.specs.declared.traverse.TraverseStep.{TraverseStep}
 use Rattle.reader.specs.declared.traverse.Whole.the-variants as whole
 use Rattle.reader.proofs.StormLaws.{counts-in}
-use Rattle.reader.proofs.LentLaws.{wholes-times}
 
 -- ---- as many numbers as were lent
 

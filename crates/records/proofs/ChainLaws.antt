@@ -33,3 +33,11 @@ each-passed kind ok n e i h = none-bad ok n 0 (eqb-true _ 0 (need-passed _ (refu
 -- where each of n places is as it should be, there is no bad one
 pub none-first : (ok : ℕ → Bool) (n : ℕ) → ((i : ℕ) → i < n → ok i ≡ true) → firstBad ok n 0 ≡ 0
 none-first ok n f = all-ok ok n 0 (λ j h l. f j (omega arith))
+
+pub each-pass : (kind : Kind) (ok : ℕ → Bool) (n : ℕ) → ((i : ℕ) → i < n → ok i ≡ true) → each kind ok n ≡ Pass
+each-pass kind ok n f = rw (none-first ok n f)
+
+-- what passes adds nothing behind it
+pub then-pass : (c : Check) → (c then Pass) ≡ c
+then-pass Pass = refl
+then-pass (Fail refusal) = refl

@@ -5,14 +5,15 @@ use mathlib.Core.List.{List, [], _∷_, _++_, append-assoc, append-nil}
 use native.Mathlib.Omega.{arith}
 use borrow.Author.Tests.{eq-eqb, ne-eqb, eqb-true, eqb-false}
 use native.Mathlib.Numerals.{add-one}
-use native.Mathlib.Nat.{mul-div-le, mul-le-mul-left, mul-suc, mul-zero}
+use native.Mathlib.Nat.{mul-div-le, mul-div-right, mul-mod-right, mul-le-mul-left, mul-suc, mul-zero}
 use Prim.Native.Nat.{ℕ, zero, suc, _+_, _*_, _/_, _%_, _-_, _≤_, _<_}
 use lib.Dec.{eqb}
 use lib.ListN.{length, getD, take, drop, length-append, List·getD-append}
 use lib.Seq.{sets, sets-eq, length-sets, take-at, take-all, getD-take, getD-append-add, getD-at, ext-getD, length-take-le}
 use lib.IntN.{ℤ, pos}
+use Rattle.records.specs.declared.Point.{Point}
 use Rattle.records.specs.declared.Row.{Row}
-use Rattle.records.specs.Groups.{wholes, at, rowAt, ofRow, groups, flat}
+use Rattle.records.specs.Groups.{wholes, at, pointCount, pointAt, ofPoint, rowAt, ofRow, groups, flat}
 use Rattle.records.specs.Rows.{freshRow}
 
 -- as many groups as are counted are there
@@ -23,6 +24,11 @@ wholes-fit width len = by (eqb (len % width) 0) refl
     by : (t : Bool) → eqb (len % width) 0 ≡ t → width * cond t (len / width) 0 ≤ len
     by true e = mul-div-le len width
     by false e = omega arith
+
+-- numbers of n groups are n groups
+pub wholes-times : (width n : ℕ) → 0 < width → wholes width (width * n) ≡ n
+unfolding wholes
+wholes-times width n h = rw (mul-mod-right width n) (mul-div-right n h)
 
 -- two numbers to a group, without a product
 pub odd : (p n : ℕ) → (p % 2 ≡ 0 → ⊥) → eqb p (2 * n) ≡ false
@@ -172,3 +178,30 @@ flat-length width numbers (x ∷ l) h =
     let b = flat-length width numbers l h in
     let c = mul-suc width (length l) in
     length-append (numbers x) (flat numbers l) ∙ omega arith
+
+-- number k of group i
+pub flat-at : {A : Type 0} (width : ℕ) (numbers : A → List ℤ) → ((x : A) → length (numbers x) ≡ width) → (l : List A) (d : A) (i k : ℕ) → i < length l → k < width →
+    at (flat numbers l) (width * i + k) ≡ at (numbers (getD l i d)) k
+unfolding flat
+flat-at width numbers w [] d i k h m = absurd (omega arith)
+flat-at width numbers w (x ∷ l) d zero k h m =
+    let z = mul-zero width in
+    let e : width * 0 + k ≡ k = omega arith in
+    let s = w x in
+    rw e (List·getD-append (numbers x) (flat numbers l) (pos 0) k (omega arith))
+flat-at width numbers w (x ∷ l) d (suc i) k h m =
+    let z = mul-suc width i in
+    let s = w x in
+    let e : width * suc i + k ≡ length (numbers x) + (width * i + k) = omega arith in
+    rw e (getD-append-add (numbers x) (flat numbers l) (width * i + k) (pos 0)) ∙ flat-at width numbers w l d i k (omega arith) m
+
+pub same-point : {w w′ a a′ d d′ : ℤ} → w ≡ w′ → a ≡ a′ → d ≡ d′ → _≡_ {A = Point} (record { wind = w; angle = a; deficit = d }) (record { wind = w′; angle = a′; deficit = d′ })
+same-point e f g = rw (e, f, g)
+
+-- point i of the numbers of points
+pub point-flat : (l : List Point) (d : Point) (i : ℕ) → i < length l → pointAt (flat ofPoint l) i ≡ getD l i d
+unfolding pointAt
+point-flat l d i h =
+    let read = flat-at 3 ofPoint (λ p. refl) l d i in
+    let z : 3 * i ≡ 3 * i + 0 = omega arith in
+    same-point (ap (at (flat ofPoint l)) z ∙ read 0 h (omega arith)) (read 1 h (omega arith)) (read 2 h (omega arith))

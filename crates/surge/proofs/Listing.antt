@@ -15,6 +15,7 @@ use Rattle.records.specs.Rows.{freshRow}
 use Rattle.records.specs.declared.Row.{Row}
 use Rattle.records.specs.Shapes.{Traverse, count, traverse}
 use Rattle.records.proofs.GroupLaws.{groups-length}
+use Rattle.records.proofs.GroupLaws.{wholes-times}
 use Rattle.reader.specs.declared.traverse.Known.{Known}
 use Rattle.reader.specs.declared.traverse.TraverseRead.{TraverseRead}
 use Rattle.reader.specs.declared.traverse.Whole.{Whole}
@@ -22,7 +23,6 @@ use Rattle.reader.specs.declared.traverse.Whole.the-variants as whole-read
 use Rattle.reader.specs.Lines.{Outcome, read, refused, Leaves, leaves}
 use Rattle.reader.specs.Traverse.{held, start, noHead, noPoints, restAt, traverseRead, traverseLeft, traverseBy, traverseOf}
 use Rattle.reader.specs.Storm.{recordSize, stormOf}
-use Rattle.reader.proofs.LentLaws.{wholes-times}
 use Rattle.listing.specs.Lines.{namesLine, refusedLine, failedLine}
 use Rattle.listing.specs.Put.{written}
 use Rattle.march.specs.Answers.{ToldOpen, opened, notOpened}

@@ -5,6 +5,7 @@ use records::Row;
 use records::limits::SEGMENTS_MOST;
 ghost use mathlib.Core.Path.{_≡_};
 ghost use Rattle.lent.specs.Calls.{leftOpen, Opens};
+ghost use Rattle.lent.specs.Making.{leftMake, Makes};
 ghost use Rattle.lent.specs.Texts.{leftTraverse, ReadsTraverse, leftRecord, ReadsRecord};
 ghost use Rattle.surge_c.specs.Rows.{movedRows};
 ghost use Rattle.surge_c.specs.Calls.{leftRows, Takes};
@@ -50,6 +51,39 @@ pub extern "C" fn fennhop_read_record(
     ensures { λ r. ⌜ ReadsRecord (now (text .entry)) count (now (cursor .entry)) (now (values .entry)) (now (storm .entry)) (now (answer .entry)) (leftRecord r (now (cursor .exit)) (now (values .exit)) (now (storm .exit)) (now (answer .exit))) ⌝ }
 {
     lent::read_record(text, count, cursor, values, storm, answer)
+}
+
+// Makes a storm record from a hurricane's few numbers. `winds` has 2 numbers a row of the list, `sites` 3 a point; `storm` is room for 3 a point, which
+// `fennhop_take_record` can be lent as it is. The answer has the seconds and the tide as they were given.
+#[no_mangle]
+pub extern "C" fn fennhop_make_record(
+    central: i64,
+    edge: i64,
+    radius: i64,
+    x: i64,
+    y: i64,
+    seconds: i64,
+    tide: i64,
+    winds: &[i64],
+    sites: &[i64],
+    storm: &mut [i64],
+    answer: &mut [i64],
+) -> u64
+    ensures { λ r. ⌜ Makes central edge radius x y seconds tide (now (winds .entry)) (now (sites .entry)) (now (storm .entry)) (now (answer .entry)) (leftMake r (now (storm .exit)) (now (answer .exit))) ⌝ }
+{
+    lent::make_record(
+        central,
+        edge,
+        radius,
+        x,
+        y,
+        seconds,
+        tide,
+        winds,
+        sites,
+        storm,
+        answer,
+    )
 }
 
 // How many of n rows are moved: no more can be accepted.

@@ -6,8 +6,8 @@ use lib.Signed.{_≤ℤ_}
 use mir.Facts.{toZ-ofZ}
 use mir.Syntax.{w64}
 use mir.Val.{SFits, toZ, ofZ}
-use Rattle.records.specs.declared.Point.{Point}
 use Rattle.records.specs.Groups.{at}
+use Rattle.records.proofs.GroupLaws.{same-point}
 use Rattle.hurricane.specs.Bounds.{ApartIn, DropIn}
 use Rattle.hurricane.specs.Field.{distanceOf, hundredthsOf, deficitOf, windOf, pointFor}
 use Rattle.hurricane.proofs.FieldLaws.{distance-nn}
@@ -17,9 +17,6 @@ use Rattle.hurricane.proofs.field.point_for.Tie as tie
 -- a number as the machine reads it
 abbrev read : ℤ → ℤ
 read z = toZ w64 (ofZ w64 z)
-
-same-point : {w w′ a a′ d d′ : ℤ} → w ≡ w′ → a ≡ a′ → d ≡ d′ → _≡_ {A = Point} (record { wind = w; angle = a; deficit = d }) (record { wind = w′; angle = a′; deficit = d′ })
-same-point e f g = rw (e, f, g)
 
 -- the distance: that a field fits is what reading it tells
 module _ (c : tie.After-struct-told4) where
