@@ -8,6 +8,7 @@ use lib.Dec.{leb}
 use borrow.Author.Tests.{leb-true, leb-false}
 use Rattle.ranges.specs.Root.{IsRoot, orMore, rootIn, squareRoot, wholeRoot, RootRight}
 
+-- b² is not above q, and the next square is
 pub record Square (q b : ℕ) : Type 0 where
   pub within : b * b ≤ q
   pub next : q < (b + 1) * (b + 1)
@@ -67,6 +68,7 @@ whole-is k n p =
       greatest = λ c h. below-root c s (le-div-iff-mul-le {k = k} p .1 (omega arith));
     }
 
+-- `specs/Root.antt`'s statement
 pub root-right : RootRight
 root-right = record {
   is = whole-is;
