@@ -2,14 +2,19 @@
 use mathlib.Core.Path.{_≡_, sym, subst, _∙_}
 use mathlib.Core.List.{List}
 use Prim.Native.Nat.{ℕ, _<_}
-use lib.IntN.{ℤ, pos}
+use lib.Dec.{T}
+use lib.IntN.{pos}
 use lib.ListN.{getD}
 use mir.Facts.{toZ-ofZ}
 use mir.Syntax.{w64}
 use mir.Val.{SFits, toZ}
 use Rattle.ranges.specs.Fraction.{_/F_}
-use Rattle.ranges.proofs.NearestLaws.{passed-rule, rule-fits}
-use Rattle.forcing.specs.Sine.{scaledSine, sineEntry, SineRule, TableRight}
+use Rattle.ranges.proofs.NearestLaws.{nearest-near, passed-rule, rule-fits}
+use Rattle.forcing.specs.Sine.{scaledSine, nearSine, sineEntry, SineRule, TableRight}
+
+pub entry-near : (n : ℕ) → T (nearSine n (sineEntry n))
+unfolding sineEntry
+entry-near n = nearest-near (scaledSine n)
 
 -- the definition's entries pass the test, so each has the rule
 pub entry-rule : (n : ℕ) → n < 901 → SineRule n (sineEntry n)

@@ -15,9 +15,9 @@ use Rattle.ranges.specs.Nearest.{nearestWhole, TableHolds}
 use Rattle.ranges.proofs.ComputedTests.{below, below-at}
 use Rattle.ranges.proofs.FractionLaws.{≈F-sym, div-cong}
 use Rattle.ranges.proofs.IntegerOrder.{le-antisymm}
-use Rattle.ranges.proofs.NearestLaws.{Passes, passed-rule, rule-same, rule-fits, table-holds}
+use Rattle.ranges.proofs.NearestLaws.{nearest-near, Passes, passed-rule, rule-same, rule-fits, table-holds}
 use Rattle.ranges.proofs.SeriesLaws.{commonSum, common-same, sum-above}
-use Rattle.hurricane.specs.Factor.{hundredths, powerSum, scaledFactor, factorEntry, FactorRule, TableRule, TableRight}
+use Rattle.hurricane.specs.Factor.{hundredths, powerSum, scaledFactor, nearFactor, factorEntry, FactorRule, TableRule, TableRight}
 
 -- ---- over one denominator
 
@@ -45,6 +45,11 @@ module _ (table : ℕ → ℤ) (t : Passes commonFactor 1001 table) where
 
 -- ---- the definition's entries
 
+pub entry-near : (m : ℕ) → T (nearFactor m (factorEntry m))
+unfolding factorEntry
+entry-near m = nearest-near (scaledFactor m)
+
+-- worked out sooner
 abbrev commonEntry : ℕ → ℤ
 commonEntry m = nearestWhole (commonFactor m)
 

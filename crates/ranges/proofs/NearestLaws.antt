@@ -80,12 +80,14 @@ rule-fits {y} {x} r = zomega (x ∷ []) (r .low & r .high) (search says depth 20
 
 -- ---- two fractions of the same value
 
-within-low : (N D N′ D′ z : ℤ) → pos 0 <ℤ D → pos 0 <ℤ D′ → N *ℤ D′ ≡ N′ *ℤ D → (pos 2 *ℤ N -ℤ D) ≤ℤ (pos 2 *ℤ z *ℤ D) → (pos 2 *ℤ N′ -ℤ D′) ≤ℤ (pos 2 *ℤ z *ℤ D′)
+within-low : (N D N′ D′ z : ℤ) → pos 0 <ℤ D → pos 0 <ℤ D′ → N *ℤ D′ ≡ N′ *ℤ D →
+    (pos 2 *ℤ N -ℤ D) ≤ℤ (pos 2 *ℤ z *ℤ D) → (pos 2 *ℤ N′ -ℤ D′) ≤ℤ (pos 2 *ℤ z *ℤ D′)
 within-low N D N′ D′ z p p′ e h =
     let k = mul-le h (lt-le p′) in
     cancel-le (pos 2 *ℤ N′ -ℤ D′) (pos 2 *ℤ z *ℤ D′) D p (zomega (N ∷ D ∷ N′ ∷ D′ ∷ z ∷ []) (e & k) (search says depth 20) (omega arith))
 
-within-high : (N D N′ D′ z : ℤ) → pos 0 <ℤ D → pos 0 <ℤ D′ → N *ℤ D′ ≡ N′ *ℤ D → (pos 2 *ℤ z *ℤ D) ≤ℤ (pos 2 *ℤ N +ℤ D) → (pos 2 *ℤ z *ℤ D′) ≤ℤ (pos 2 *ℤ N′ +ℤ D′)
+within-high : (N D N′ D′ z : ℤ) → pos 0 <ℤ D → pos 0 <ℤ D′ → N *ℤ D′ ≡ N′ *ℤ D →
+    (pos 2 *ℤ z *ℤ D) ≤ℤ (pos 2 *ℤ N +ℤ D) → (pos 2 *ℤ z *ℤ D′) ≤ℤ (pos 2 *ℤ N′ +ℤ D′)
 within-high N D N′ D′ z p p′ e h =
     let k = mul-le h (lt-le p′) in
     cancel-le (pos 2 *ℤ z *ℤ D′) (pos 2 *ℤ N′ +ℤ D′) D p (zomega (N ∷ D ∷ N′ ∷ D′ ∷ z ∷ []) (e & k) (search says depth 20) (omega arith))
@@ -121,5 +123,6 @@ passed-rule value count table t n h = rule (value n) (table n) (below-at (λ (n 
 pub rule-nearest : {y : Frac} {x : ℤ} → NearestRule y x → x ≡ nearestWhole y
 rule-nearest {y} r = sym (r .only (nearestWhole y) (nearest-near y))
 
-pub table-holds : {value : ℕ → Frac} {count : ℕ} {table : ℕ → ℤ} → ((n : ℕ) → n < count → NearestRule (value n) (table n)) → TableHolds count (λ (n : ℕ). nearestWhole (value n)) table
+pub table-holds : {value : ℕ → Frac} {count : ℕ} {table : ℕ → ℤ} → ((n : ℕ) → n < count → NearestRule (value n) (table n)) →
+    TableHolds count (λ (n : ℕ). nearestWhole (value n)) table
 table-holds rules = record { entry = λ n h. rule-nearest (rules n h) }
