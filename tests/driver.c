@@ -1,6 +1,6 @@
-/* Answers the requests of tests/calls.py (its head has the protocol) through the product's libraries: opening and taking a record
- * through libsurge_c.a as any customer's program would, the functions below the march through libprobe.a. `segment` is not exported
- * and is answered `skip`.
+/* Answers the requests of tests/calls.py and tests/make_calls.py (their heads have the protocol) through the product's libraries:
+ * opening a traverse, taking and making a record through libsurge_c.a as any customer's program would, the functions below the march
+ * through libprobe.a. `segment` is not exported and is answered `skip`.
  *
  * Every array that is lent stands between two guard numbers, the rows between two guard rows, and arrays that are only read are
  * compared with a copy after the call; a number changed outside of what was lent ends the driver. */
@@ -20,16 +20,17 @@ void probe_damped(int64_t c, int64_t v_low, int64_t v_high, int64_t f_low, int64
                   int64_t *out, size_t out_count);
 void probe_quotient(int64_t n_low, int64_t n_high, int64_t d_low, int64_t d_high, int64_t *out, size_t out_count);
 
-enum { WRITTEN = 100, ROOM = 4096 };
+enum { WRITTEN = 100, ROOM = 4096, WHOLE = 4000, FIRST = 200 };
 #define GUARD INT64_C(0x5bd1e995a5a5a5a5)
 static const fennhop_row GUARD_ROW = {GUARD, GUARD, GUARD};
 
 /* Zero pages for a count of points or of rows above 100, of which the request gives none. They cannot be written, and a call that tried
- * would end the driver; but for the first rows, which a refused call may write back as they were. */
+ * would end the driver; but for the first rows, which a refused call may write back as they were, and the first of a room. */
 static const int64_t *blank;
 static fennhop_row *blank_rows;
+static int64_t *blank_room;
 static const size_t BLANK = (size_t)13 << 30; /* numbers: twice and thrice the largest count asked */
-static const size_t OPEN = 1 << 16; /* bytes of rows that can be written */
+static const size_t OPEN = 1 << 16; /* bytes of rows, and of a room, that can be written */
 
 static char *at; /* the next number of the request */
 
@@ -113,7 +114,7 @@ static void check_given(const struct lent *a)
         unchanged(a);
 }
 
-static struct lent line, storm, state, setup, answer;
+static struct lent line, storm, state, setup, answer, winds, sites, room;
 
 /* Rows between two guard rows, with a copy of what was lent. */
 static struct {
@@ -242,6 +243,57 @@ static void take_record(void)
     putchar('\n');
 }
 
+/* COUNT and so many numbers; above 4,000 the count alone, and the pages for it. */
+static void array(struct lent *a, const int64_t *pages)
+{
+    size_t count = (size_t)number();
+    if (count <= WHOLE) {
+        fill(a, count);
+        return;
+    }
+    if (count > BLANK)
+        fail("a count of numbers is larger than the driver's blank pages");
+    fill(a, 0);
+    a->numbers = pages;
+    a->count = count;
+}
+
+/* The room as the call left it: of blank pages the first numbers, which are set to 0 again, behind which nothing was written. */
+static void write_room(void)
+{
+    if (room.numbers != blank_room) {
+        guarded(&room);
+        write_all(&room);
+        return;
+    }
+    printf(" %zu", room.count);
+    for (size_t i = 0; i < OPEN / sizeof(int64_t); i++) {
+        if (i < FIRST)
+            printf(" %" PRId64, blank_room[i]);
+        else if (blank_room[i])
+            fail("a number far behind what is written was changed");
+    }
+    memset(blank_room, 0, FIRST * sizeof(int64_t));
+}
+
+static void make_record(void)
+{
+    int64_t centre = number(), edge = number(), radius = number(), x = number(), y = number(), seconds = number(), tide = number();
+    array(&winds, blank);
+    array(&sites, blank);
+    array(&room, blank_room);
+    fill(&answer, (size_t)number());
+    uint64_t n = fennhop_make_record(centre, edge, radius, x, y, seconds, tide, given(&winds), winds.count, given(&sites), sites.count,
+                                     room.numbers == blank_room ? blank_room : lend(&room), room.count, lend(&answer), answer.count);
+    check_given(&winds);
+    check_given(&sites);
+    guarded(&answer);
+    printf("%" PRIu64, n);
+    write_all(&answer);
+    write_room();
+    putchar('\n');
+}
+
 static void write_range(const int64_t *r)
 {
     printf("%" PRId64 " %" PRId64 "\n", r[0], r[1]);
@@ -285,6 +337,8 @@ static void request(char *text)
         take_record();
     else if (!strcmp(word, "open"))
         open_traverse();
+    else if (!strcmp(word, "make"))
+        make_record();
     else if (!strcmp(word, "force"))
         force();
     else if (!strcmp(word, "flux"))
@@ -319,8 +373,9 @@ int main(void)
     setvbuf(stdout, out, _IOFBF, sizeof out);
     blank = zeros();
     blank_rows = zeros();
-    if (mprotect(blank_rows, OPEN, PROT_READ | PROT_WRITE))
-        fail("no blank rows");
+    blank_room = zeros();
+    if (mprotect(blank_rows, OPEN, PROT_READ | PROT_WRITE) || mprotect(blank_room, OPEN, PROT_READ | PROT_WRITE))
+        fail("no blank rows or room");
     while (getline(&text, &size, stdin) > 0)
         request(text);
     if (ferror(stdin) || fflush(stdout))

@@ -1,6 +1,6 @@
 /* Calls of the library that only a program in another language can make: counts that are no multiple of a point, any count of rows, a
- * `state` or `answer` of another length, no numbers at all, the ends of int64_t. Every array lies between guard numbers and is
- * compared with a copy. */
+ * `state` or `answer` of another length, no numbers at all, the ends of int64_t, arrays at the end of what can be read. Every array
+ * lies between guard numbers and is compared with a copy. */
 #include <inttypes.h>
 #include <stddef.h>
 #include <stdio.h>
@@ -9,18 +9,24 @@
 #include "../include/surge.h"
 #include "expect.h"
 
-enum { ROOM = 512, STATE = 0, SETUP, ANSWER, NUMBERS, MANY = FENNHOP_MOST_SEGMENTS };
+enum { ROOM = 512, STATE = 0, SETUP, ANSWER, STORM, NUMBERS, MANY = FENNHOP_MOST_SEGMENTS };
 static const int64_t GUARD = INT64_C(0x5bd1e995a5a5a5a5);
 
 /* document 01's listing storm, two points */
 static const int64_t points[] = {10, 500, 0, 500, 0, 0, 0, 0};
 static const int64_t first[] = {1000, 0, 0, 1000, 0, 0, 0, 0, 0};
+/* a hurricane's list of winds and points to make a record of: two are at its centre and at 401 */
+static const int64_t winds[] = {400, 1000, 701, 700, 900, 500, 901, 0, 950};
+static const int64_t sites[] = {0, 0, 900, 401, 0, 1800, 0, -401, 3599};
+/* what is made of them with R 401 and a drop of 300: wind, angle, deficit */
+static const int64_t record_made[] = {1000, 900, 300, 999, 1800, 189, 999, 3599, 189};
 /* a traverse and a record of the most points */
 static int64_t long_points[2 * FENNHOP_MOST_POINTS], long_first[3 * FENNHOP_MOST_POINTS];
 
 /* What is lent, each with a guard before it and guards behind. */
 static int64_t space[NUMBERS][ROOM], was[NUMBERS][ROOM];
 static int64_t *const state = space[STATE] + 1, *const setup = space[SETUP] + 1, *const answer = space[ANSWER] + 1;
+static int64_t *const storm = space[STORM] + 1;
 static fennhop_row row_space[ROOM], rows_were[ROOM];
 static fennhop_row *const rows = row_space + 1;
 
@@ -71,13 +77,13 @@ static int same_rows(int count)
 static void refused(const char *what, uint64_t got, uint64_t number, int64_t place)
 {
     expect(what, got == number && answer[0] == place && answer[1] == 0 && answer[2] == 0);
-    expect(what, same(STATE, 0) && same_rows(0) && same(SETUP, 0) && same(ANSWER, FENNHOP_ANSWER));
+    expect(what, same(STATE, 0) && same_rows(0) && same(SETUP, 0) && same(STORM, 0) && same(ANSWER, FENNHOP_ANSWER));
 }
 
 static void untouched(const char *what, uint64_t got)
 {
     expect(what, got == FENNHOP_WRONG_BUFFER);
-    expect(what, same(STATE, 0) && same_rows(0) && same(SETUP, 0) && same(ANSWER, 0));
+    expect(what, same(STATE, 0) && same_rows(0) && same(SETUP, 0) && same(STORM, 0) && same(ANSWER, 0));
 }
 
 static uint64_t take(size_t points_count, size_t storm_count, size_t state_count, size_t rows_count, size_t setup_count,
@@ -103,6 +109,13 @@ static uint64_t open(size_t points_count, size_t state_count, size_t answer_coun
                                  answer_count ? answer : NULL, answer_count);
 }
 
+static uint64_t make(size_t winds_count, size_t sites_count, size_t storm_count, size_t answer_count)
+{
+    prepare(0);
+    return fennhop_make_record(2800, 3100, 401, 0, 0, 1800, -35, winds_count ? winds : NULL, winds_count, sites_count ? sites : NULL,
+                               sites_count, storm_count ? storm : NULL, storm_count, answer_count ? answer : NULL, answer_count);
+}
+
 /* What the header says of itself and of a row. */
 static void header(void)
 {
@@ -113,6 +126,9 @@ static void header(void)
     expect("a row is three numbers", sizeof(fennhop_row) == 3 * sizeof(int64_t));
     expect("low, high, cross", offsetof(fennhop_row, low) == 0 && offsetof(fennhop_row, high) == sizeof(int64_t) &&
                                    offsetof(fennhop_row, cross) == 2 * sizeof(int64_t));
+    expect("the strides and limits of making a record", FENNHOP_WINDS_STRIDE == 2 && FENNHOP_SITES_STRIDE == 3 &&
+                                                            FENNHOP_STORM_STRIDE == 3 && FENNHOP_MOST_WINDS == 50);
+    expect("the refusals of making a record", FENNHOP_REFUSED_STORM_VALUE == 13 && FENNHOP_REFUSED_WIND_RADII == 14);
     expect("the lengths for the most points", FENNHOP_READ_POINTS == FENNHOP_POINTS_STRIDE * FENNHOP_MOST_POINTS &&
                                                   FENNHOP_READ_STORM == FENNHOP_STORM_STRIDE * FENNHOP_MOST_POINTS);
 }
@@ -216,17 +232,17 @@ static void ends(void)
 {
     for (int e = 0; e < 2; e++)
         for (int i = 0; i < 19; i++) {
-            int64_t head[3] = {300, 25, 0}, line[4], times[2] = {0, 0}, storm[6];
+            int64_t head[3] = {300, 25, 0}, line[4], times[2] = {0, 0}, field[6];
             memcpy(line, points, sizeof line);
-            memcpy(storm, first, sizeof storm);
+            memcpy(field, first, sizeof field);
             prepare(1);
             int64_t *places[] = {head, head + 1, head + 2, line, line + 1, line + 2, line + 3, &rows->low, &rows->high, &rows->cross,
-                                 times, times + 1, state, storm, storm + 1, storm + 2, storm + 3, storm + 4, storm + 5};
+                                 times, times + 1, state, field, field + 1, field + 2, field + 3, field + 4, field + 5};
             static const int number[] = {6, 6, 6, 6, 6, 6, 6, 8, 8, 8, 9, 9, 9, 9, 9, 9, 9, 9, 9};
             static const int place[] = {0, 0, 0, 1, 1, 2, 2, 1, 1, 1, 0, 0, 0, 1, 1, 1, 2, 2, 2};
             *places[i] = end[e];
             keep();
-            uint64_t n = fennhop_take_record(head[0], head[1], head[2], line, 4, times[0], times[1], storm, 6, state, 2, rows, 1, setup,
+            uint64_t n = fennhop_take_record(head[0], head[1], head[2], line, 4, times[0], times[1], field, 6, state, 2, rows, 1, setup,
                                              2, answer, 3);
             refused("an end of int64_t", n, number[i], place[i]);
         }
@@ -245,6 +261,96 @@ static void row_ends(void)
         }
 }
 
+/* A record that was made of the first `count` points. */
+static void is_made(const char *what, uint64_t got, size_t count, int64_t seconds, int64_t tide)
+{
+    size_t numbers = FENNHOP_STORM_STRIDE * count;
+    expect(what, got == 0 && answer[0] == 0 && answer[1] == seconds && answer[2] == tide);
+    expect(what, !memcmp(storm, record_made, numbers * sizeof(int64_t)));
+    expect(what, same(STATE, 0) && same_rows(0) && same(SETUP, 0) && same(STORM, numbers) && same(ANSWER, FENNHOP_ANSWER));
+}
+
+/* Counts of all that is lent to make a record, and none of it. */
+static void make_counts(void)
+{
+    for (size_t n = 0; n < 10; n++) {
+        if (n % FENNHOP_WINDS_STRIDE || n == 0)
+            refused("rows of a wind list", make(n, 6, 6, 3), FENNHOP_REFUSED_STORM_VALUE, 0);
+        if (n != 6 && n != 9)
+            refused("points to make a record of", make(4, n, 9, 3), FENNHOP_REFUSED_STORM_VALUE, 0);
+        if (n < 6)
+            refused("room for two points", make(4, 6, n, 3), FENNHOP_REFUSED_LENT, 0);
+        else
+            is_made("two points", make(4, 6, n, 3), 2, 1800, -35);
+        if (n < 9)
+            refused("room for three points", make(4, 9, n, 3), FENNHOP_REFUSED_LENT, 0);
+        if (n != 3)
+            untouched("an answer of another length, making", make(4, 6, 6, n));
+    }
+    is_made("three points", make(8, 9, 9, 3), 3, 1800, -35);
+    is_made("room to spare", make(8, 9, ROOM - 2, 3), 3, 1800, -35);
+    untouched("nothing at all, making", make(0, 0, 0, 0));
+    refused("an answer alone", make(0, 0, 0, 3), FENNHOP_REFUSED_STORM_VALUE, 0);
+}
+
+/* The ends of int64_t in every number that a record is made of; seconds and tide are passed on as they are. */
+static void make_ends(void)
+{
+    for (int e = 0; e < 2; e++)
+        for (int i = 0; i < 15; i++) {
+            int64_t head[5] = {2800, 3100, 401, 0, 0}, list[4], place[6];
+            memcpy(list, winds, sizeof list);
+            memcpy(place, sites, sizeof place);
+            *(i < 5 ? head + i : i < 9 ? list + i - 5 : place + i - 9) = end[e];
+            int64_t told = i < 5 ? 0 : i < 9 ? (i - 5) / 2 + 1 : (i - 9) / 3 + 1;
+            prepare(0);
+            uint64_t n = fennhop_make_record(head[0], head[1], head[2], head[3], head[4], 0, 0, list, 4, place, 6, storm, 6, answer, 3);
+            refused("an end of int64_t, making", n, FENNHOP_REFUSED_STORM_VALUE, told);
+        }
+    for (int e = 0; e < 4; e++) {
+        prepare(0);
+        uint64_t n = fennhop_make_record(2800, 3100, 401, 0, 0, end[e & 1], end[e >> 1], winds, 4, sites, 6, storm, 6, answer, 3);
+        is_made("seconds and tide at the ends of int64_t", n, 2, end[e & 1], end[e >> 1]);
+    }
+}
+
+/* `count` numbers of an array behind which nothing can be read, and which cannot be written. */
+static int64_t *fenced(const int64_t *numbers, size_t count)
+{
+    const size_t page = 1 << 16;
+    char *pages = mmap(NULL, 2 * page, PROT_READ | PROT_WRITE, MAP_PRIVATE | MAP_ANONYMOUS, -1, 0);
+    if (pages == MAP_FAILED) {
+        expect("fenced pages", 0);
+        return NULL;
+    }
+    int64_t *first_number = (int64_t *)(pages + page) - count;
+    memcpy(first_number, numbers, count * sizeof(int64_t));
+    mprotect(pages, page, PROT_READ);
+    mprotect(pages + page, page, PROT_NONE);
+    return first_number;
+}
+
+/* Nothing is read behind an array, and a refused call writes no room: memory that cannot be written will do. */
+static void make_fenced(void)
+{
+    static const int64_t level[] = {400, 1000, 400, 700};
+    const int64_t *list = fenced(winds, 4), *equal = fenced(level, 4), *place = fenced(sites, 6);
+    int64_t *shut = fenced(record_made, 6);
+    if (!list || !equal || !place || !shut)
+        return;
+    prepare(0);
+    is_made("fenced arrays", fennhop_make_record(2800, 3100, 401, 0, 0, 7, 8, list, 4, place, 6, storm, 6, answer, 3), 2, 7, 8);
+    prepare(0);
+    uint64_t n = fennhop_make_record(2800, 3100, 0, 0, 0, 7, 8, list, 4, place, 6, shut, 6, answer, 3);
+    refused("a room that cannot be written, no radius", n, FENNHOP_REFUSED_STORM_VALUE, 0);
+    n = fennhop_make_record(2800, 3100, 401, 0, 0, 7, 8, equal, 4, place, 6, shut, 6, answer, 3);
+    refused("a room that cannot be written, equal radii", n, FENNHOP_REFUSED_WIND_RADII, 2);
+    n = fennhop_make_record(2800, 3100, 401, 0, 0, 7, 8, list, 4, place, 6, shut + 1, 5, answer, 3);
+    refused("a short room that cannot be written", n, FENNHOP_REFUSED_LENT, 0);
+    prepare(0);
+    untouched("an answer too short, fenced", fennhop_make_record(2800, 3100, 401, 0, 0, 7, 8, list, 4, place, 6, shut, 6, answer, 2));
+}
+
 int main(void)
 {
     for (int i = 0; i < FENNHOP_MOST_POINTS; i++) {
@@ -261,5 +367,8 @@ int main(void)
     started();
     ends();
     row_ends();
+    make_counts();
+    make_ends();
+    make_fenced();
     return summary();
 }

@@ -1,9 +1,11 @@
-# A driver in Python for the protocol of calls.py: it answers from the model's
-# fast path. It shows how the protocol is read and lets calls.py be tried
-# without the product.
+# A driver in Python for the protocol of calls.py and make_calls.py: it answers
+# from the model, its fast path for the march. It shows how the protocol is read
+# and lets both be tried without the product.
 
 import sys
 
+import make_calls
+from gen.hurricanes import Call
 from model import fast, forcing, march
 from model.sine import cosine, sine
 
@@ -35,6 +37,11 @@ class Numbers:
         if count > 100:
             return range(count)
         return [march.Row(*row) for row in self.groups(count, 3)]
+
+    def array(self):
+        """Above 4,000 only the count is given."""
+        count = self.one()
+        return self.some(count) if count <= 4000 else range(count)
 
     def traverse(self):
         head = self.some(3)
@@ -75,6 +82,11 @@ def record(numbers):
     return head + left
 
 
+def make(numbers):
+    call = Call(*numbers.some(7), *(numbers.array() for _ in range(4)))
+    return [make_calls.expected(call)]
+
+
 CALLS = {
     "sine": lambda n: [sine(n.one())],
     "cosine": lambda n: [cosine(n.one())],
@@ -85,6 +97,7 @@ CALLS = {
     "segment": segment,
     "open": open_traverse,
     "record": record,
+    "make": make,
 }
 
 

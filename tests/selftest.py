@@ -1,6 +1,7 @@
 # Tests of the model and of the generators: document 01's reference runs, the
 # readings of its text, the exact march within every range, ranges against a
-# dense sample of fractions, and the fast path against the fractions.
+# dense sample of fractions, and the fast path against the fractions; document
+# 02's storm maker by numbers worked out by hand.
 #
 #   python3 selftest.py        the last line is `N passed, M failed`
 
@@ -13,10 +14,12 @@ import sys
 import time
 import traceback
 from fractions import Fraction
+from unittest import mock
 
 import calls
-from gen import cases, damage, edges, values
-from model import exact, fast, forcing, march, program, ranges, reader, refread
+import make_calls
+from gen import cases, damage, edges, hurricanes, values
+from model import exact, fast, forcing, hurricane, march, program, ranges, reader, refread
 from model.sine import TABLE, cosine, sine
 
 
@@ -548,10 +551,215 @@ def test_driver_answers():
     """The driver in Python agrees, and a changed answer is noticed."""
     here = os.path.dirname(os.path.abspath(__file__))
     driver = "%s %s" % (sys.executable, os.path.join(here, "refdriver.py"))
-    command = [sys.executable, os.path.join(here, "calls.py"), driver, "300", "2"]
-    same(subprocess.run(command, stdout=subprocess.DEVNULL).returncode, 0)
-    command[2] = driver + " | sed s/5/6/"
-    same(subprocess.run(command, stdout=subprocess.DEVNULL).returncode, 1)
+    only = "--only=limit,room,answer,random"
+    for tool in (["calls.py"], ["make_calls.py", only]):
+        command = [sys.executable, os.path.join(here, tool[0]), driver, "300", "2", *tool[1:]]
+        same(subprocess.run(command, stdout=subprocess.DEVNULL).returncode, 0)
+        command[2] = driver + " | sed s/5/6/"
+        same(subprocess.run(command, stdout=subprocess.DEVNULL).returncode, 1)
+
+
+# The storm maker of document 02, by hand from its readings.
+
+
+def test_factor_table():
+    table = [hurricane.entry(m) for m in range(1001)]
+    same((len(table), table[0], table[990], set(table[991:])), (1001, 10_000, 1, {0}))
+    by_hand = {1: 9900, 50: 6065, 100: 3679, 200: 1353, 300: 498, 500: 67, 700: 9}
+    same({m: table[m] for m in by_hand}, by_hand)
+    assert all(a >= b for a, b in zip(table, table[1:]))
+    for m, value in enumerate(table):
+        exact_value = 10_000 / hurricane.exponential(m)
+        assert abs(value - 10_000 * math.exp(-m / 100)) < 0.5001, m
+        assert Fraction(1, 2) - abs(exact_value - value) > Fraction(9, 10_000), m
+
+
+def storm_at(x=0, y=0, drop=300, radius=300):
+    return hurricane.Hurricane(2800, 2800 + drop, radius, x, y)
+
+
+def test_distances():
+    for site, r in (((0, 0), 0), ((3, -4), 5), ((3, -5), 5), ((1, 1), 1), ((7, 1), 7)):
+        same(hurricane.distance(storm_at(), site), r)
+    same(hurricane.distance(storm_at(-10_000, 10_000), (10_000, -10_000)), 28_284)
+    same(hurricanes.FARTHEST, 28_284)
+
+
+def test_deficits():
+    ratios = {(2000, 200): 1000, (2000, 201): 995, (2000, 199): 1000, (1, 100): 1, (1, 101): 0}
+    ratios.update({(300, 300): 100, (300, 301): 99, (1, 0): 1000, (2000, 1): 1000})
+    for (radius, r), m in ratios.items():
+        same((radius, r, hurricane.hundredths(radius, r)), (radius, r, m))
+    for r, want in ((0, 300), (30, 300), (300, 189), (301, 188), (150, 259), (30_001, 0)):
+        same((r, hurricane.deficit(storm_at(), r)), (r, want))
+    same([hurricane.deficit(storm_at(drop=d), 300) for d in (0, 1, 2, 3)], [0, 0, 1, 1])
+
+
+def test_list_winds():
+    falling = (400, 1000), (701, 700)
+    by_hand = {0: 1000, 399: 1000, 400: 1000, 401: 999, 550: 850, 551: 849, 700: 700}
+    by_hand.update({701: 700, 702: 700, 28_284: 700})
+    same({r: hurricane.wind(falling, r) for r in by_hand}, by_hand)
+    rising = (2, 10), (5, 12), (6, 2000)
+    same([hurricane.wind(rising, r) for r in range(8)], [10, 10, 10, 10, 11, 12, 2000, 2000])
+    same([hurricane.wind(((50, 7),), r) for r in (0, 49, 50, 51)], [7] * 4)
+
+
+def refusal_in(**changes):
+    number, answer, room = make_calls.outcome(hurricanes.SOUND._replace(**changes))
+    if number == 0:
+        return None
+    same(tuple(room), changes.get("room", hurricanes.SOUND.room))
+    same(answer[1:], (0, 0))
+    return number, answer[0]
+
+
+def test_storm_refusals():
+    same(refusal_in(), None)
+    same(refusal_in(centre=3000, edge=2999), (13, 0))
+    same(refusal_in(centre=2700, edge=3001), (13, 0))
+    same([refusal_in(centre=c, edge=2600) for c in (2499, 2500)], [(13, 0), None])
+    same([refusal_in(centre=3000, edge=e) for e in (3200, 3201)], [None, (13, 0)])
+    same([refusal_in(radius=r) for r in (0, 1, 2000, 2001)], [(13, 0), None, None, (13, 0)])
+    same([refusal_in(y=y) for y in (-10_001, -10_000)], [(13, 0), None])
+    same([refusal_in(winds=w) for w in ((), (5,), (5, 6, 7), (5, 6))], [(13, 0)] * 3 + [None])
+    sites = hurricanes.SOUND.sites
+    same([refusal_in(sites=sites[:n]) for n in (0, 3, 5, 6, 7)], [(13, 0)] * 3 + [None, (13, 0)])
+    same([refusal_in(winds=(0, w)) for w in (-1, 0, 2000, 2001)], [(13, 1), None, None, (13, 1)])
+    same([refusal_in(winds=(r, 9)) for r in (-1, 30_000, 30_001)], [(13, 1), None, (13, 1)])
+    same(refusal_in(sites=sites[:5] + (3600,)), (13, 2))
+    same(refusal_in(winds=(5, 9, 5, 9, 4, 2001)), (13, 3))
+    same(refusal_in(winds=(5, 9, 5, 9, 4, 2000)), (14, 2))
+    same(refusal_in(winds=(5, 9, 6, 9, 4, 2000), room=()), (14, 3))
+    same([refusal_in(room=(7,) * n) for n in (0, 11, 12, 13)], [(8, 0), (8, 0), None, None])
+    same(refusal_in(seconds=-(2**63), tide=2**63 - 1), None)
+
+
+def test_storm_fault_pairs():
+    """The first of two faults is answered."""
+    for call, first in hurricanes.fault_pairs():
+        number, place = hurricanes.refusal_of(first)
+        same(make_calls.outcome(call), (number, (place, 0, 0), list(call.room)))
+
+
+def test_made_record():
+    """Room, answer and record of one call; spare room stays."""
+    sites = ((0, 0, 900), (401, 0, 1800))
+    call = hurricanes.call_of(storm_at(radius=401), ((400, 1000), (701, 700)), sites, 2, 5, -6)
+    number, answer, room = make_calls.outcome(call)
+    same((number, answer), (0, (0, 5, -6)))
+    same(tuple(room), (1000, 900, 300, 999, 1800, 189) + call.room[6:])
+    same(make_calls.outcome(call._replace(answer=(1, 2)))[:2], (255, (1, 2)))
+
+
+def test_made_records_pass_check_9():
+    rng = random.Random(21)
+    for call in hurricanes.random_calls(rng, 400):
+        number, _, room = make_calls.outcome(call)
+        if number == 0:
+            points = make_calls.groups(tuple(room[: len(call.sites)]), 3)
+            record = march.Record(0, 0, points)
+            same(march.check_record(march.State(0, False), record), None)
+
+
+def test_storm_calls_reach_all():
+    """Every entry of the table and every distance is met. Entries too near to each
+    other for any drop to tell them apart are counted."""
+    ratios, distances = set(), set()
+    for call in hurricanes.table_calls(random.Random(22)):
+        r = hurricane.distance(hurricane.Hurricane(*call[:5]), call.sites[:2])
+        ratios.add(hurricane.hundredths(call.radius, r))
+    for call in hurricanes.root_calls(random.Random(23)):
+        storm = hurricane.Hurricane(*call[:5])
+        distances.update(hurricane.distance(storm, s) for s in make_calls.groups(call.sites, 3))
+    same(sorted(ratios ^ set(range(1001))), [])
+    same(sorted(distances ^ set(range(28_285)))[:9], [])
+    told = [len(list(hurricanes.telling_drops(hurricane.entry(m)))) for m in range(1001)]
+    print("  told from both neighbours: %d entries, from one: %d" % (told.count(2), told.count(1)))
+
+
+def toward_nought(winds, r):
+    """The change of the wind divided toward nought."""
+    for (inner, w0), (outer, w1) in zip(winds, winds[1:]):
+        if inner <= r <= outer:
+            return w0 + math.trunc(Fraction((w1 - w0) * (r - inner), outer - inner))
+    return winds[0][1] if r < winds[0][0] else winds[-1][1]
+
+
+def nothing_beyond(winds, r, right=hurricane.wind):
+    return 0 if r > winds[-1][0] else right(winds, r)
+
+
+def nearest_root(storm, site):
+    return round(math.hypot(site[0] - storm.x, site[1] - storm.y))
+
+
+def nearest_ratio(radius, r):
+    return 1000 if r == 0 else min(1000, (200 * radius + r) // (2 * r))
+
+
+def deficit_up(storm, r):
+    value = hurricane.entry(hurricane.hundredths(storm.radius, r))
+    return -((storm.centre - storm.edge) * (10_000 - value) // 10_000)
+
+
+def radii_may_stay(winds):
+    pairs = enumerate(zip(winds, winds[1:]), 2)
+    return next((march.Refusal(14, i) for i, (a, b) in pairs if b[0] < a[0]), None)
+
+
+def radii_first(storm, winds, sites, right=hurricane.check_values):
+    return hurricane.check_radii(winds) or right(storm, winds, sites)
+
+
+STORM_MISTAKES = (
+    ("wind", toward_nought, "wind"),
+    ("wind", nothing_beyond, "wind"),
+    ("distance", nearest_root, "wind"),
+    ("hundredths", nearest_ratio, "wind"),
+    ("deficit", deficit_up, "wind"),
+    ("check_radii", radii_may_stay, "limit"),
+    ("check_values", radii_first, "pair"),
+)
+
+
+def test_storm_mistakes_are_noticed():
+    for name, mistake, kind in STORM_MISTAKES:
+        asked = list(hurricanes.FIXED[kind](random.Random(24)))
+        right = [make_calls.outcome(call) for call in asked]
+        with mock.patch.object(hurricane, name, mistake):
+            noticed = sum(make_calls.outcome(call) != want for call, want in zip(asked, right))
+        print("  %-18s noticed in %d of %d calls" % (mistake.__name__, noticed, len(asked)))
+        assert noticed > 1
+
+
+def track_of(seconds, **changes):
+    """A hurricane that comes ashore along a traverse of two points."""
+    sites = ((0, -100, 450), (0, 0, 450))
+    places = []
+    for i, step in enumerate(seconds):
+        storm = storm_at(0, -400 + 100 * i)._replace(**changes)
+        places.append(hurricane.Place(storm, step, 10 * i, hurricanes.ROWS, sites))
+    return places
+
+
+def test_hurricane_listing():
+    """The lines of a track are those of its records as a storm file."""
+    traverse = march.Traverse(300, 25, 0, ((10, 500), (0, 500)))
+    text = STORM
+    for record in hurricane.records(track_of((0, 1800, 1800, 600))):
+        for point in record.points:
+            text += b"%d %d %d %d %d\n" % (*record[:2], *point)
+    got = hurricane.listing(traverse, track_of((0, 1800, 1800, 600)))
+    same(got, program.listing(GOOD, text))
+    same([line.split()[0] for line in got.split(b"\n")[:-1]], b"seconds 0 1800 3600 4200".split())
+    begun = b"".join(got.splitlines(True)[:2])
+    late = track_of((0, 3601))
+    same(hurricane.listing(traverse, late), begun + b"refused 9 0\n")
+    bad = late[:1] + track_of((1, 1), radius=0)
+    same(hurricane.listing(traverse, bad), begun + b"refused 13 0\n")
+    same(hurricane.listing(traverse._replace(friction=51), late), b"refused 6 0\n")
+    same(hurricane.listing(traverse, []), NAMES)
 
 
 def main():

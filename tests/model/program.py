@@ -14,9 +14,9 @@ def refused(refusal):
     return "refused %d %d\n" % refusal
 
 
-def storm_lines(traverse, state, storm_text, formulas):
+def storm_lines(traverse, state, records, formulas):
     rows = march.fresh_rows(traverse)
-    for record in read_storm(storm_text, len(traverse.points)):
+    for record in records:
         if not isinstance(record, march.Refusal):
             record = march.take_record(traverse, state, rows, [], record, formulas)
         if isinstance(record, march.Refusal):
@@ -26,15 +26,21 @@ def storm_lines(traverse, state, storm_text, formulas):
         yield "%d %d %d\n" % (state.elapsed, record.low, record.high)
 
 
+def listing_of(traverse, records, formulas):
+    """The listing of a traverse and of its records, the last of which may be the
+    refusal of one."""
+    state = march.open_traverse(traverse)
+    if isinstance(state, march.Refusal):
+        return refused(state).encode()
+    lines = storm_lines(traverse, state, records, formulas)
+    return ("seconds low high\n" + "".join(lines)).encode()
+
+
 def listing(traverse_text, storm_text, formulas=march.Fractions):
     traverse = read_traverse(traverse_text)
-    if not isinstance(traverse, march.Refusal):
-        state = march.open_traverse(traverse)
-        if not isinstance(state, march.Refusal):
-            lines = storm_lines(traverse, state, storm_text, formulas)
-            return ("seconds low high\n" + "".join(lines)).encode()
-        traverse = state
-    return refused(traverse).encode()
+    if isinstance(traverse, march.Refusal):
+        return refused(traverse).encode()
+    return listing_of(traverse, read_storm(storm_text, len(traverse.points)), formulas)
 
 
 def load(path):
