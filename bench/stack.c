@@ -1,6 +1,6 @@
 /* How much stack each call of the library uses, in bytes: the call is made on a stack that was painted, and how far the paint is gone is looked for
- * afterwards. Counted from the frame of the caller down, so what it passes on the stack is in it. Each call is made with 65 points, Level C, accepted
- * and refused; the most of these is printed. */
+ * afterwards. Counted from the frame of the caller down, so what it passes on the stack is in it. Each call is made with 65 points, Level C or 50
+ * rows of winds, accepted and refused; the most of these is printed. */
 #include <inttypes.h>
 #include <stdio.h>
 #include <stdlib.h>
@@ -8,10 +8,11 @@
 #include <ucontext.h>
 #include "../include/surge.h"
 
-enum { POINTS = FENNHOP_MOST_POINTS, SEGMENTS = FENNHOP_MOST_SEGMENTS, SIZE = 1 << 20, PAINT = 0xa5 };
+enum { POINTS = FENNHOP_MOST_POINTS, SEGMENTS = FENNHOP_MOST_SEGMENTS, WINDS = FENNHOP_MOST_WINDS, SIZE = 1 << 20, PAINT = 0xa5 };
 
 static int64_t points[FENNHOP_READ_POINTS], storm[FENNHOP_READ_STORM], state[FENNHOP_STATE], answer[FENNHOP_ANSWER];
 static int64_t head[FENNHOP_HEAD], cursor[FENNHOP_CURSOR], values[FENNHOP_VALUES], setup[FENNHOP_SETUP_STRIDE * SEGMENTS];
+static int64_t winds[FENNHOP_WINDS_STRIDE * WINDS], sites[FENNHOP_SITES_STRIDE * POINTS], room[FENNHOP_READ_STORM];
 static fennhop_row rows[SEGMENTS];
 static char traverse_text[4096], storm_text[8192];
 
@@ -19,9 +20,9 @@ static unsigned char stack[SIZE], *frame; /* the frame of the function that make
 static ucontext_t here, there;
 static uint64_t told;
 
-/* What the cases change: one number that is refused, the seconds, the bytes of text. */
-static int64_t latitude = 430, seconds, shore_wind;
-static size_t traverse_bytes, storm_bytes;
+/* What the cases change: numbers that are refused, the seconds, the bytes of text, the room for a record. */
+static int64_t latitude = 430, seconds, shore_wind, centre_pressure = 2757;
+static size_t traverse_bytes, storm_bytes, room_count = FENNHOP_READ_STORM;
 
 static void open_traverse(void)
 {
@@ -50,6 +51,13 @@ static void read_record(void)
     frame = __builtin_frame_address(0);
     told = fennhop_read_record((const uint8_t *)storm_text, storm_bytes, POINTS, cursor, FENNHOP_CURSOR, values, FENNHOP_VALUES, storm,
                                FENNHOP_READ_STORM, answer, FENNHOP_ANSWER);
+}
+
+static void make_record(void)
+{
+    frame = __builtin_frame_address(0);
+    told = fennhop_make_record(centre_pressure, 2992, 403, -300, 403, 600, 0, winds, FENNHOP_WINDS_STRIDE * WINDS, sites,
+                               FENNHOP_SITES_STRIDE * POINTS, room, room_count, answer, FENNHOP_ANSWER);
 }
 
 /* Bytes between the caller's frame and the deepest one that was written. */
@@ -90,6 +98,20 @@ static void write_texts(void)
     storm_bytes = (size_t)s;
 }
 
+/* The longest list of winds, and points from beyond its last radius to inside its first. */
+static void place_points(void)
+{
+    for (int i = 0; i < WINDS; i++) {
+        winds[FENNHOP_WINDS_STRIDE * i] = 410 + 10 * i;
+        winds[FENNHOP_WINDS_STRIDE * i + 1] = 1000 - 10 * i;
+    }
+    for (int i = 0; i < POINTS; i++) {
+        sites[FENNHOP_SITES_STRIDE * i] = -20 * (SEGMENTS - i);
+        sites[FENNHOP_SITES_STRIDE * i + 1] = 0;
+        sites[FENNHOP_SITES_STRIDE * i + 2] = 900 + 10 * i;
+    }
+}
+
 /* A sound text of so many bytes, an empty one, and one whose last line is not closed. */
 static long of_reading(void (*call)(void), size_t *length)
 {
@@ -126,19 +148,34 @@ static long of_taking(void)
     return bytes;
 }
 
+/* A record that is made, and one refused by the first and by the last check. */
+static long of_making(void)
+{
+    long bytes = used(make_record, 0);
+    centre_pressure = 2499;
+    bytes = most(bytes, used(make_record, FENNHOP_REFUSED_STORM_VALUE));
+    centre_pressure = 2757;
+    room_count = FENNHOP_READ_STORM - 1;
+    bytes = most(bytes, used(make_record, FENNHOP_REFUSED_LENT));
+    room_count = FENNHOP_READ_STORM;
+    return bytes;
+}
+
 /* One round before, so that what the dynamic linker does once is not counted. */
 int main(void)
 {
     write_texts();
+    place_points();
     for (int round = 0; round < 2; round++) {
         memset(rows, 0, sizeof rows);
         seconds = 0;
         long reading_traverse = of_reading(read_traverse, &traverse_bytes), reading_record = of_reading(read_record, &storm_bytes);
-        long opening = of_opening(), taking = of_taking();
+        long opening = of_opening(), taking = of_taking(), making = of_making();
         if (round == 0)
             continue;
         printf("fennhop_open_traverse %ld\nfennhop_take_record %ld\n", opening, taking);
         printf("fennhop_read_traverse %ld\nfennhop_read_record %ld\n", reading_traverse, reading_record);
+        printf("fennhop_make_record %ld\n", making);
     }
     return 0;
 }

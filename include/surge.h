@@ -12,6 +12,14 @@
  * THE TEXT of a traverse and of a storm, in the form of traverse.txt and storm.txt and held whole by the caller, is read into such
  * numbers by fennhop_read_traverse and fennhop_read_record. No value is judged by its limits there: that is for the two calls above.
  *
+ * A HURRICANE that is held by its few numbers (pressures at the centre and at the edge, radius R of greatest wind, a list of winds by
+ * radius, a track) is turned into records by fennhop_make_record, one call for one place of the track. At each point, with r its
+ * distance from the centre, rounded down: the deficit is (edge - centre) * (1 - e^(-R/r)), equations 31 and 33 of TM-35, rounded down,
+ * e^(-R/r) being taken in ten-thousandths and R/r in hundredths, rounded down, 10 at most, and 10 where r is 0; the wind is that of
+ * the list at r, straight between two rows and rounded down, the first row's inside its radius and the last row's beyond its own; the
+ * angle is the one given. Seconds and tide are passed on as they are given, and judged by fennhop_take_record (9, place 0). Every
+ * other number of a record that was made passes check 9.
+ *
  * NUMBERS AND LIMITS. All are whole numbers, int64_t. Both ends of a limit are allowed.
  *
  *   latitude           0.1 degree north                           0 to 900
@@ -30,6 +38,14 @@
  *   setup, height      0.0001 ft                                  setup -1,000,000 to 1,000,000
  *   elapsed            s since the first record                   0 to 1,000,000,000
  *
+ * and for making a record, miles being statute miles (a nautical mile is 1.1508 of them):
+ *
+ *   centre pressure    0.01 inch of mercury                       2,500 to 3,200
+ *   edge pressure      0.01 inch of mercury                       2,500 to 3,200, 0 to 300 above the centre pressure
+ *   R                  0.1 mile                                   1 to 2,000
+ *   x, y               0.1 mile, in a plane of the caller's       -10,000 to 10,000
+ *   list's radius      0.1 mile from the centre                   0 to 30,000, each above the one before
+ *
  * ARRAYS. Each is a pointer and, right after it, a count: of rows for `rows`, of bytes for `text`, and for every other array of its
  * numbers (not of points). All are the caller's: they are used during the call alone, and the library keeps no pointer. Arrays marked
  * const are only read. A pointer may be NULL where its count is 0, and only there; otherwise it points to so many of them, aligned as
@@ -46,6 +62,7 @@
  *   answer   FENNHOP_ANSWER numbers, set by every call that returns anything but FENNHOP_WRONG_BUFFER:
  *            [0] the place of a refusal, else 0; [1], [2] low and high of the height at the shore where a record is accepted, else 0.
  *            Reading a text: [1] the points of the traverse, or 1 where a record was read; else 0. [2] is 0.
+ *            Making a record: [1], [2] seconds and tide as given where it is made, else 0.
  *
  * and for reading a text:
  *
@@ -59,9 +76,17 @@
  *   storm    FENNHOP_READ_STORM numbers: as above for each point of the traverse, then 0. The march's call is given
  *            FENNHOP_STORM_STRIDE times the points as its count.
  *
+ * and for making a record:
+ *
+ *   winds    FENNHOP_WINDS_STRIDE numbers a row of the list, from the centre outward: radius, wind. 1 to 50 rows.
+ *   sites    FENNHOP_SITES_STRIDE numbers a point, in the order of the traverse: x, y, angle. 2 to 65 points.
+ *   storm    room for FENNHOP_STORM_STRIDE numbers a point of `sites` or more, which a record that is made sets as above; spare room
+ *            behind them stays as it was. The march's call is given FENNHOP_STORM_STRIDE times the points as its count: room of just
+ *            so many numbers is handed on as it is, and answer[1] and answer[2] with it as seconds and tide.
+ *
  * WHAT A CALL RETURNS: 0 where it is accepted, else the number of the first refusal, with its place in answer[0] (lines, points, rows
- * and segments count from 1). Each number has a name below. The march's two calls make their checks in the order of this table and
- * never return 1 to 4; the two that read a text return 1 to 5 alone, in the order told at each.
+ * and segments count from 1). Each number has a name below. The march's two calls make their checks in the order of this table, 5 to
+ * 12 alone; the two that read a text return 1 to 5 alone, and fennhop_make_record 13, 14 and 8 alone, in the order told at each.
  *
  *    1  a names line different, or the text empty                                    line; 1 if empty
  *    2  a value line malformed, or a wrong count of values                           line
@@ -74,20 +99,26 @@
  *    8  rows not one for each segment, points of the record not as many as of the
  *       traverse, setup neither 0 nor two numbers a segment (place 0); or a row
  *       whose low is above its high or that is past its limits                       row
+ *       making a record: room for fewer numbers than it writes                       0
  *    9  a value of the record past its limits                                        point; 0 for seconds, tide, elapsed
  *   10  water depth past 100 to 100,000 (0.01 ft)                                    segment
  *   11  flux past its limits                                                         segment
  *   12  setup past its limits                                                        segment
+ *   13  making a record: a pressure, R, the centre or a count past its limits
+ *       (place 0); a radius or a wind of the list; x, y or angle of a point          row of the list; point
+ *   14  making a record: a radius of the list not above the one before               row, the later of the two
  *
  * FENNHOP_WRONG_BUFFER: `state`, `answer`, or what a text is read into, is not as long as it has to be; no check was made and nothing
  * was written, the answer neither.
  *
- * A count that is no multiple of the numbers of a point counts as no points at all: 5, place 0, for `points`, and 8, place 0, for
- * `storm`. An elapsed time in `state` that is itself past its limits is 9, place 0. Within a segment 10 comes before 11 and 11 before
- * 12, and all three before the next segment.
+ * A count that is no multiple of the numbers of a point, or of a row of the list, counts as none at all: 5, place 0, for `points`, 8,
+ * place 0, for `storm`, 13, place 0, for `sites` and `winds`. Room for a record may have any count from what is written on. An elapsed
+ * time in `state` that is itself past its limits is 9, place 0. Within a segment 10 comes before 11 and 11 before 12, and all three
+ * before the next segment.
  *
  * A refused call writes nothing but its answer: state, rows and setup stay exactly as they were, so the caller may mend the record and
- * call again. A refused reading leaves head, points, cursor, values and storm exactly as they were.
+ * call again. A refused reading leaves head, points, cursor, values and storm exactly as they were, and a record that is not made
+ * leaves its room so.
  *
  * STACK that a call needs, from its caller's frame down, as measured on x86-64 (bench/stack.c) and rounded up to a multiple of 512.
  * What a dynamic linker needs to find memcpy the first time is not in it.
@@ -96,6 +127,7 @@
  *   fennhop_take_record       6,656 bytes
  *   fennhop_read_traverse     1,536 bytes
  *   fennhop_read_record       2,048 bytes
+ *   fennhop_make_record       to be measured
  */
 #ifndef FENNHOP_SURGE_H
 #define FENNHOP_SURGE_H
@@ -108,17 +140,22 @@ extern "C" {
 #endif
 
 /* The version of this header and its library; the number is 10,000 * major + 100 * minor + patch. */
-#define FENNHOP_VERSION "1.0.0"
-#define FENNHOP_VERSION_NUMBER 10000
+#define FENNHOP_VERSION "1.1.0"
+#define FENNHOP_VERSION_NUMBER 10100
 
 /* The most points of a traverse, and the most segments between them. */
 #define FENNHOP_MOST_POINTS 65
 #define FENNHOP_MOST_SEGMENTS 64
 
-/* Numbers a point of `points`, a point of `storm`, a segment of `setup`. */
+/* The most rows of a list of winds. */
+#define FENNHOP_MOST_WINDS 50
+
+/* Numbers a point of `points`, a point of `storm`, a segment of `setup`, a row of `winds`, a point of `sites`. */
 #define FENNHOP_POINTS_STRIDE 2
 #define FENNHOP_STORM_STRIDE 3
 #define FENNHOP_SETUP_STRIDE 2
+#define FENNHOP_WINDS_STRIDE 2
+#define FENNHOP_SITES_STRIDE 3
 
 /* Numbers of the arrays that have one length. */
 #define FENNHOP_STATE 2
@@ -137,11 +174,13 @@ extern "C" {
 #define FENNHOP_REFUSED_POINTS 5          /* fewer than 2 or more than 65 points */
 #define FENNHOP_REFUSED_TRAVERSE_VALUE 6  /* a value of the traverse past its limits */
 #define FENNHOP_REFUSED_DISTANCE 7        /* distances break their rule */
-#define FENNHOP_REFUSED_LENT 8            /* rows, points of the record or setup of another count, or a row past its limits */
+#define FENNHOP_REFUSED_LENT 8            /* rows, points of the record, setup or room do not fit, or a row past its limits */
 #define FENNHOP_REFUSED_RECORD_VALUE 9    /* a value of the record, or the elapsed time, past its limits */
 #define FENNHOP_REFUSED_DEPTH 10          /* water depth past its limits */
 #define FENNHOP_REFUSED_FLUX 11           /* flux past its limits */
 #define FENNHOP_REFUSED_SETUP 12          /* setup past its limits */
+#define FENNHOP_REFUSED_STORM_VALUE 13    /* a value or a count that a record is made from past its limits */
+#define FENNHOP_REFUSED_WIND_RADII 14     /* radii of the list of winds do not rise */
 
 /* Returned where an array that has one length is lent with another. */
 #define FENNHOP_WRONG_BUFFER 255
@@ -184,6 +223,17 @@ uint64_t fennhop_read_traverse(const uint8_t *text, size_t text_count,
 uint64_t fennhop_read_record(const uint8_t *text, size_t text_count, size_t point_count,
                              int64_t *cursor, size_t cursor_count,
                              int64_t *values, size_t values_count,
+                             int64_t *storm, size_t storm_count,
+                             int64_t *answer, size_t answer_count);
+
+/* Makes a record of a hurricane for the points in `sites`; x and y are its centre, radius is R. In this order: the length of answer,
+ * 255; 13, place 0, for both pressures, R, the centre and the counts of rows and points; 13 by row of the list for its radius and wind;
+ * 13 by point for its x, y and angle; 14 by row; the room, 8, place 0. Made: storm has the wind, angle and deficit of each point, and
+ * answer has 0, seconds, tide. Refused: storm is left as it was. */
+uint64_t fennhop_make_record(int64_t centre_pressure, int64_t edge_pressure, int64_t radius, int64_t x, int64_t y,
+                             int64_t seconds, int64_t tide,
+                             const int64_t *winds, size_t winds_count,
+                             const int64_t *sites, size_t sites_count,
                              int64_t *storm, size_t storm_count,
                              int64_t *answer, size_t answer_count);
 

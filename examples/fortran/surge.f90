@@ -7,17 +7,22 @@ module surge
   implicit none
 
   ! The version of the header and its library; the number is 10,000 * major + 100 * minor + patch.
-  character(*), parameter :: fennhop_version = '1.0.0'
-  integer, parameter :: fennhop_version_number = 10000
+  character(*), parameter :: fennhop_version = '1.1.0'
+  integer, parameter :: fennhop_version_number = 10100
 
   ! The most points of a traverse, and the most segments between them.
   integer(c_size_t), parameter :: fennhop_most_points = 65
   integer(c_size_t), parameter :: fennhop_most_segments = 64
 
-  ! Numbers a point of `points`, a point of `storm`, a segment of `setup`.
+  ! The most rows of a list of winds.
+  integer(c_size_t), parameter :: fennhop_most_winds = 50
+
+  ! Numbers a point of `points`, a point of `storm`, a segment of `setup`, a row of `winds`, a point of `sites`.
   integer(c_size_t), parameter :: fennhop_points_stride = 2
   integer(c_size_t), parameter :: fennhop_storm_stride = 3
   integer(c_size_t), parameter :: fennhop_setup_stride = 2
+  integer(c_size_t), parameter :: fennhop_winds_stride = 2
+  integer(c_size_t), parameter :: fennhop_sites_stride = 3
 
   ! Numbers of the arrays that have one length.
   integer(c_size_t), parameter :: fennhop_state = 2
@@ -36,11 +41,13 @@ module surge
   integer(c_int64_t), parameter :: fennhop_refused_points = 5          ! fewer than 2 or more than 65 points
   integer(c_int64_t), parameter :: fennhop_refused_traverse_value = 6  ! a value of the traverse past its limits
   integer(c_int64_t), parameter :: fennhop_refused_distance = 7        ! distances break their rule
-  integer(c_int64_t), parameter :: fennhop_refused_lent = 8            ! rows, points of the record or setup do not fit
+  integer(c_int64_t), parameter :: fennhop_refused_lent = 8            ! rows, points of the record, setup or room do not fit
   integer(c_int64_t), parameter :: fennhop_refused_record_value = 9    ! a value of the record, or the elapsed time, past its limits
   integer(c_int64_t), parameter :: fennhop_refused_depth = 10          ! water depth past its limits
   integer(c_int64_t), parameter :: fennhop_refused_flux = 11           ! flux past its limits
   integer(c_int64_t), parameter :: fennhop_refused_setup = 12          ! setup past its limits
+  integer(c_int64_t), parameter :: fennhop_refused_storm_value = 13    ! a value or a count that a record is made from past its limits
+  integer(c_int64_t), parameter :: fennhop_refused_wind_radii = 14     ! radii of the list of winds do not rise
 
   ! Returned where an array that has one length is lent with another.
   integer(c_int64_t), parameter :: fennhop_wrong_buffer = 255
@@ -88,6 +95,16 @@ module surge
       integer(c_int8_t), intent(in) :: text(*)
       integer(c_size_t), value :: text_count, point_count, cursor_count, values_count, storm_count, answer_count
       integer(c_int64_t), intent(inout) :: cursor(*), values(*), storm(*), answer(*)
+      integer(c_int64_t) :: number
+    end function
+
+    function fennhop_make_record(centre_pressure, edge_pressure, radius, x, y, seconds, tide, winds, winds_count, &
+                                 sites, sites_count, storm, storm_count, answer, answer_count) bind(c) result(number)
+      import :: c_int64_t, c_size_t
+      integer(c_int64_t), value :: centre_pressure, edge_pressure, radius, x, y, seconds, tide
+      integer(c_int64_t), intent(in) :: winds(*), sites(*)
+      integer(c_size_t), value :: winds_count, sites_count, storm_count, answer_count
+      integer(c_int64_t), intent(inout) :: storm(*), answer(*)
       integer(c_int64_t) :: number
     end function
   end interface
