@@ -15,10 +15,10 @@
  * A HURRICANE that is held by its few numbers (pressures at the centre and at the edge, radius R of greatest wind, a list of winds by
  * radius, a track) is turned into records by fennhop_make_record, one call for one place of the track. At each point, with r its
  * distance from the centre, rounded down: the deficit is (edge - centre) * (1 - e^(-R/r)), equations 31 and 33 of TM-35, rounded down,
- * e^(-R/r) being taken in ten-thousandths and R/r in hundredths, rounded down, 10 at most, and 10 where r is 0; the wind is that of
+ * e^(-R/r) being the nearest ten-thousandth, with R/r rounded down to hundredths, 10 at most, and 10 where r is 0; the wind is that of
  * the list at r, straight between two rows and rounded down, the first row's inside its radius and the last row's beyond its own; the
- * angle is the one given. Seconds and tide are passed on as they are given, and judged by fennhop_take_record (9, place 0). Every
- * other number of a record that was made passes check 9.
+ * angle is the one given. Seconds and tide are passed on as they are given: they, and the elapsed time, may still be refused by
+ * fennhop_take_record (9, place 0). Every other number of a record that was made passes check 9.
  *
  * NUMBERS AND LIMITS. All are whole numbers, int64_t. Both ends of a limit are allowed.
  *

@@ -432,6 +432,7 @@ LISTINGS = (
     (b"refused 08 1\n", 2, NO), (b"refused 2 08\n", 2, NO), (b"refused 2 %d\n" % 10**15, 2, NO),
     (NAMES + b"08 1 2\n", 2, NO), (NAMES + b"%d 1 2\n" % 10**10, 2, NO),
     (b"refused 8 1\n", 3, "refused 8 1: the program has no such refusal"), (b"refused 99 1\n", 3, "the program has no such refusal"),
+    (b"refused 13 0\n", 3, "refused 13 0: the program has no such refusal"), (b"refused 14 2\n", 3, "refused 14 2: the program has no such refusal"),
     (b"refused 5 4000000000\n", 3, "there are 4000000000 points"),
     (b"refused 2 4000000000\n", 3, "in traverse.txt, line 4000000000, point 3999999997"),
 )
