@@ -21,7 +21,7 @@ static ucontext_t here, there;
 static uint64_t told;
 
 /* What the cases change: numbers that are refused, the seconds, the bytes of text, the room for a record. */
-static int64_t latitude = 430, seconds, shore_wind, centre_pressure = 2757;
+static int64_t latitude = 430, seconds, shore_wind, central_pressure = 2757;
 static size_t traverse_bytes, storm_bytes, room_count = FENNHOP_READ_STORM;
 
 static void open_traverse(void)
@@ -56,7 +56,7 @@ static void read_record(void)
 static void make_record(void)
 {
     frame = __builtin_frame_address(0);
-    told = fennhop_make_record(centre_pressure, 2992, 403, -300, 403, 600, 0, winds, FENNHOP_WINDS_STRIDE * WINDS, sites,
+    told = fennhop_make_record(central_pressure, 2992, 403, -300, 403, 600, 0, winds, FENNHOP_WINDS_STRIDE * WINDS, sites,
                                FENNHOP_SITES_STRIDE * POINTS, room, room_count, answer, FENNHOP_ANSWER);
 }
 
@@ -152,9 +152,9 @@ static long of_taking(void)
 static long of_making(void)
 {
     long bytes = used(make_record, 0);
-    centre_pressure = 2499;
+    central_pressure = 2499;
     bytes = most(bytes, used(make_record, FENNHOP_REFUSED_STORM_VALUE));
-    centre_pressure = 2757;
+    central_pressure = 2757;
     room_count = FENNHOP_READ_STORM - 1;
     bytes = most(bytes, used(make_record, FENNHOP_REFUSED_LENT));
     room_count = FENNHOP_READ_STORM;

@@ -40,8 +40,8 @@
  *
  * and for making a record, miles being statute miles (a nautical mile is 1.1508 of them):
  *
- *   centre pressure    0.01 inch of mercury                       2,500 to 3,200
- *   edge pressure      0.01 inch of mercury                       2,500 to 3,200, 0 to 300 above the centre pressure
+ *   central pressure   0.01 inch of mercury                       2,500 to 3,200
+ *   edge pressure      0.01 inch of mercury                       2,500 to 3,200, 0 to 300 above the central pressure
  *   R                  0.1 mile                                   1 to 2,000
  *   x, y               0.1 mile, in a plane of the caller's       -10,000 to 10,000
  *   list's radius      0.1 mile from the centre                   0 to 30,000, each above the one before
@@ -230,7 +230,7 @@ uint64_t fennhop_read_record(const uint8_t *text, size_t text_count, size_t poin
  * 255; 13, place 0, for both pressures, R, the centre and the counts of rows and points; 13 by row of the list for its radius and wind;
  * 13 by point for its x, y and angle; 14 by row; the room, 8, place 0. Made: storm has the wind, angle and deficit of each point, and
  * answer has 0, seconds, tide. Refused: storm is left as it was. */
-uint64_t fennhop_make_record(int64_t centre_pressure, int64_t edge_pressure, int64_t radius, int64_t x, int64_t y,
+uint64_t fennhop_make_record(int64_t central_pressure, int64_t edge_pressure, int64_t radius, int64_t x, int64_t y,
                              int64_t seconds, int64_t tide,
                              const int64_t *winds, size_t winds_count,
                              const int64_t *sites, size_t sites_count,

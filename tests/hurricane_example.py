@@ -143,7 +143,7 @@ def c_tables(source):
     said = constants(source)
     for name, value in (
         ("LATITUDE", given.latitude), ("FRICTION", given.friction), ("INITIAL", given.initial), ("POINTS", len(given.points)),
-        ("CENTRE_PRESSURE", storm.centre), ("EDGE_PRESSURE", storm.edge), ("RADIUS", tenths(Fraction(R))), ("START", 10 * START),
+        ("CENTRAL_PRESSURE", storm.centre), ("EDGE_PRESSURE", storm.edge), ("RADIUS", tenths(Fraction(R))), ("START", 10 * START),
         ("LEFT", 10 * LEFT), ("GOES", tenths(Fraction(VF) * Fraction(DELT))), ("RECORDS", NM), ("SECONDS", track[1].seconds),
         ("TIDE", track[0].tide),
     ):

@@ -23,7 +23,7 @@ static const int64_t points[FENNHOP_POINTS_STRIDE * POINTS] = {
 
 /* The hurricane: pressures in 0.01 inch of mercury; in 0.1 nautical mile its radius R, how far seaward of the shore its centre starts, how
  * far to the left of the traverse it passes, and how far it goes from record to record. */
-enum { CENTRE_PRESSURE = 2757, EDGE_PRESSURE = 2992, RADIUS = 350, START = 3770, LEFT = 350, GOES = 110 };
+enum { CENTRAL_PRESSURE = 2757, EDGE_PRESSURE = 2992, RADIUS = 350, START = 3770, LEFT = 350, GOES = 110 };
 
 /* The track: so many records, the seconds between two, and the tide in 0.01 ft. */
 enum { RECORDS = 62, SECONDS = 1800, TIDE = 250 };
@@ -106,7 +106,7 @@ static void make_record(int record, int64_t *storm, int64_t *made)
 {
     int64_t gone = (int64_t)record * GOES, sites[FENNHOP_SITES_STRIDE * POINTS];
     place_points(gone, sites);
-    uint64_t number = fennhop_make_record(CENTRE_PRESSURE, EDGE_PRESSURE, statute(RADIUS), statute(gone - START), statute(LEFT),
+    uint64_t number = fennhop_make_record(CENTRAL_PRESSURE, EDGE_PRESSURE, statute(RADIUS), statute(gone - START), statute(LEFT),
                                           record ? SECONDS : 0, TIDE, winds, WINDS_COUNT, sites, FENNHOP_SITES_STRIDE * POINTS, storm,
                                           FENNHOP_STORM_STRIDE * POINTS, made, FENNHOP_ANSWER);
     if (number)

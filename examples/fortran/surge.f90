@@ -98,10 +98,10 @@ module surge
       integer(c_int64_t) :: number
     end function
 
-    function fennhop_make_record(centre_pressure, edge_pressure, radius, x, y, seconds, tide, winds, winds_count, &
+    function fennhop_make_record(central_pressure, edge_pressure, radius, x, y, seconds, tide, winds, winds_count, &
                                  sites, sites_count, storm, storm_count, answer, answer_count) bind(c) result(number)
       import :: c_int64_t, c_size_t
-      integer(c_int64_t), value :: centre_pressure, edge_pressure, radius, x, y, seconds, tide
+      integer(c_int64_t), value :: central_pressure, edge_pressure, radius, x, y, seconds, tide
       integer(c_int64_t), intent(in) :: winds(*), sites(*)
       integer(c_size_t), value :: winds_count, sites_count, storm_count, answer_count
       integer(c_int64_t), intent(inout) :: storm(*), answer(*)

@@ -2,3 +2,4 @@
 pub mod FactorTable
 pub mod FieldLaws
 pub mod MakeLaws
+pub mod Cases
