@@ -38,7 +38,7 @@
  *   setup, height      0.0001 ft                                  setup -1,000,000 to 1,000,000
  *   elapsed            s since the first record                   0 to 1,000,000,000
  *
- * and for making a record, miles being statute miles (a nautical mile is 1.1508 of them):
+ * and for making a record, where a mile is statute or nautical, the same for all lengths (a nautical mile is 1.1508 statute miles):
  *
  *   central pressure   0.01 inch of mercury                       2,500 to 3,200
  *   edge pressure      0.01 inch of mercury                       2,500 to 3,200, 0 to 300 above the central pressure
@@ -127,7 +127,7 @@
  *   fennhop_take_record       6,656 bytes
  *   fennhop_read_traverse     1,536 bytes
  *   fennhop_read_record       2,048 bytes
- *   fennhop_make_record       to be measured
+ *   fennhop_make_record       8,704 bytes
  */
 #ifndef FENNHOP_SURGE_H
 #define FENNHOP_SURGE_H

@@ -8,7 +8,7 @@ use Rattle.ranges.specs.Fraction.{_/F_}
 use Rattle.ranges.specs.Range.{lesser}
 use Rattle.ranges.specs.Root.{rootIn, squareRoot, wholeRoot}
 use Rattle.records.specs.declared.Closing.{Closing}
-use Rattle.records.specs.Chain.{firstBad}
+use Rattle.records.specs.CheckOrder.{firstBad}
 use Rattle.records.specs.Groups.{wholes, groups, flat}
 use Rattle.records.specs.Limits.{inside, countOk}
 use Rattle.hurricane.specs.declared.Hurricane.{Hurricane}

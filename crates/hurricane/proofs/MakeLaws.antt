@@ -14,11 +14,11 @@ use Rattle.records.specs.declared.Check.{Check}
 use Rattle.records.specs.declared.Check.the-variants.{Pass, Fail}
 use Rattle.records.specs.declared.Closing.{Closing}
 use Rattle.records.specs.declared.Kind.the-variants.{Lent, StormValue, WindRadii}
-use Rattle.records.specs.Chain.{need, _then_, each}
+use Rattle.records.specs.CheckOrder.{need, _then_, each}
 use Rattle.records.specs.Groups.{pointAt, ofPoint, groups}
 use Rattle.records.specs.Limits.{countOk, mostPoints, windOk, angleOk, pointOk}
 use Rattle.records.specs.Refusals.{refusal}
-use Rattle.records.proofs.ChainLaws.{need-passed, then-left, then-right, each-passed}
+use Rattle.records.proofs.CheckOrderLaws.{need-passed, then-left, then-right, each-passed}
 use Rattle.records.proofs.GroupLaws.{groups-same, groups-length, groups-at, flat-length, point-flat}
 use Rattle.records.proofs.LimitLaws.{and-left, and-right, Between, between, within, sized}
 use Rattle.hurricane.specs.declared.Hurricane.{Hurricane}

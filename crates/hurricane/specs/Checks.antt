@@ -7,7 +7,7 @@ use lib.IntN.{ℤ}
 use lib.Signed.{ltZ}
 use Rattle.records.specs.declared.Check.{Check}
 use Rattle.records.specs.declared.Kind.the-variants.{Lent, StormValue, WindRadii}
-use Rattle.records.specs.Chain.{need, _then_, each}
+use Rattle.records.specs.CheckOrder.{need, _then_, each}
 use Rattle.records.specs.Limits.{countOk, mostPoints}
 use Rattle.records.specs.Refusals.{refusal}
 use Rattle.hurricane.specs.declared.Hurricane.{Hurricane}

@@ -20,7 +20,7 @@ ghost use mathlib.Core.Path.{_≡_};
 ghost use mathlib.Core.Bool.{_&&_};
 ghost use Prim.Native.Nat.{_+_, _*_, _≤_, _<_};
 ghost use lib.ListN.{length};
-ghost use Rattle.records.specs.Chain.{firstBad};
+ghost use Rattle.records.specs.CheckOrder.{firstBad};
 ghost use Rattle.records.specs.Limits.{countOk, mostPoints};
 ghost use Rattle.hurricane.specs.Limits.{hurricaneOk, windCountOk};
 ghost use Rattle.hurricane.specs.Checks.{windRowsOk, sitesOk, risingOk, makeCheck};

@@ -14,7 +14,7 @@ use Rattle.ranges.specs.Quotient.{quotientLow, quotientHigh}
 use Rattle.ranges.specs.Damped.{dampedOf, dampedLeast, dampedMost, dampedLow, dampedHigh, dampedFloor, dampedCeil}
 use Rattle.records.specs.declared.Check.{Check}
 use Rattle.records.specs.declared.Check.the-variants.{Pass, Fail}
-use Rattle.records.specs.Chain.{firstBad}
+use Rattle.records.specs.CheckOrder.{firstBad}
 use Rattle.forcing.specs.Sine.{scaledSine, sineEntry}
 use Rattle.forcing.specs.Quadrant.{sineOf, cosineOf}
 use Rattle.forcing.specs.Stress.{stressOf, crossOf, onshoreOf}

@@ -13,12 +13,12 @@ use Rattle.records.specs.declared.Check.the-variants.{Pass, Fail}
 use Rattle.records.specs.declared.Closing.{Closing}
 use Rattle.records.specs.declared.Kind.the-variants.{RecordValue}
 use Rattle.records.specs.declared.Refusal.{Refusal}
-use Rattle.records.specs.Chain.{need}
+use Rattle.records.specs.CheckOrder.{need}
 use Rattle.records.specs.Groups.{wholes, pointAt}
 use Rattle.records.specs.Limits.{pointOk}
 use Rattle.records.specs.Refusals.{numberOf, refusal}
 use Rattle.records.specs.Shapes.{storm}
-use Rattle.records.proofs.ChainLaws.{each-pass, then-pass}
+use Rattle.records.proofs.CheckOrderLaws.{each-pass, then-pass}
 use Rattle.records.proofs.GroupLaws.{wholes-times}
 use Rattle.records.proofs.LimitLaws.{Between}
 use Rattle.records.proofs.RefusalLaws.{number-above}

@@ -9,7 +9,7 @@ use lib.ListN.{length, take}
 use lib.IntN.{ℤ, pos}
 use Rattle.records.specs.declared.Closing.{Closing}
 use Rattle.records.specs.declared.Kind.the-variants.{RecordValue}
-use Rattle.records.specs.Chain.{need}
+use Rattle.records.specs.CheckOrder.{need}
 use Rattle.records.specs.Groups.{pointCount, pointAt}
 use Rattle.records.specs.Limits.{pointOk}
 use Rattle.records.specs.Refusals.{refusal}

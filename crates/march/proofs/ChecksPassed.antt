@@ -22,13 +22,13 @@ use Rattle.records.specs.declared.Kind.{Kind}
 use Rattle.records.specs.declared.Kind.the-variants.{Points, TraverseValue, Distance, Lent, RecordValue}
 use Rattle.records.specs.declared.Refusal.{Refusal}
 use Rattle.records.specs.Refusals.{refusal}
-use Rattle.records.specs.Chain.{need, _then_, firstBad, each}
+use Rattle.records.specs.CheckOrder.{need, _then_, firstBad, each}
 use Rattle.records.specs.Groups.{stationAt, pointCount, pointAt, rowCount, rowAt}
 use Rattle.records.specs.Rows.{rowFlux}
 use Rattle.records.specs.Shapes.{Traverse, Record, count}
 use Rattle.records.specs.Limits.{inside, countOk, latitudeOk, frictionOk, initialOk, headOk, distanceOk, bedOk, stationOk, lengthOk, shoreOk, tideOk, secondsOk, elapsedOk, windOk, angleOk, deficitOk, pointOk, fluxOk, crossOk, rowOk}
 use Rattle.records.proofs.LimitLaws.{and-left, and-right, and-both, le-flag, Between, between, within, range-between, range-within}
-use Rattle.records.proofs.ChainLaws.{need-passed, then-left, then-right, each-passed, none-first}
+use Rattle.records.proofs.CheckOrderLaws.{need-passed, then-left, then-right, each-passed, none-first}
 use Rattle.march.specs.declared.State.{State}
 use Rattle.march.specs.Checks.{stationsOk, spacingOk, traverseCheck, placesOk, rowsOk, lentCheck, timesOk, pointsOk, recordCheck, checksOf}
 

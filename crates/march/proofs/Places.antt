@@ -20,7 +20,7 @@ use Rattle.records.specs.Shapes.{Traverse, Record, count}
 use Rattle.records.specs.Limits.{countOk, headOk, waterOk, fluxOk, setupOk}
 use Rattle.records.specs.declared.Check.{Check}
 use Rattle.records.specs.declared.Check.the-variants.{Pass, Fail}
-use Rattle.records.specs.Chain.{need, _then_, each, firstBad}
+use Rattle.records.specs.CheckOrder.{need, _then_, each, firstBad}
 use Rattle.segment.specs.declared.Leg.{Leg}
 use Rattle.segment.specs.declared.Site.{Site}
 use Rattle.segment.specs.declared.Weather.{Weather}

@@ -10,7 +10,7 @@ use Rattle.records.specs.declared.Check.{Check}
 use Rattle.records.specs.declared.Closing.{Closing}
 use Rattle.records.specs.declared.Kind.the-variants.{Points, TraverseValue, Distance, Lent, RecordValue}
 use Rattle.records.specs.Refusals.{refusal}
-use Rattle.records.specs.Chain.{need, _then_, each}
+use Rattle.records.specs.CheckOrder.{need, _then_, each}
 use Rattle.records.specs.Groups.{stationAt, pointCount, pointAt, rowCount, rowAt}
 use Rattle.records.specs.Shapes.{Traverse, Record, count}
 use Rattle.records.specs.Limits.{countOk, headOk, stationOk, lengthOk, shoreOk, rowOk, secondsOk, tideOk, elapsedOk, pointOk}

@@ -37,7 +37,7 @@ ghost use lib.IntN.{pos, _-ℤ_};
 ghost use Rattle.ranges.specs.Bounds.{Sized};
 ghost use Rattle.records.specs.Limits.{lengthOk, shoreOk, mostPoints};
 ghost use Rattle.records.specs.Shapes.{traverse, storm};
-ghost use Rattle.records.specs.Chain.{firstBad};
+ghost use Rattle.records.specs.CheckOrder.{firstBad};
 ghost use Rattle.march.specs.Checks.{stationsOk, spacingOk, traverseCheck, openOf, openedBy, placesOk, rowsOk, lentCheck, timesOk, pointsOk, recordCheck, checksOf};
 
 // ---- a traverse

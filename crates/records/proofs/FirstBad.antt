@@ -4,7 +4,7 @@ use mathlib.Core.Bool.{Bool, true, false, cond}
 use mathlib.Core.Logic.{_⊎_, inl, inr}
 use native.Mathlib.Omega.{arith}
 use Prim.Native.Nat.{ℕ, zero, suc, _+_, _-_, _≤_, _<_}
-use Rattle.records.specs.Chain.{firstBad}
+use Rattle.records.specs.CheckOrder.{firstBad}
 
 -- the search that is left gives what the whole search gives
 pub record SearchInv (ok : ℕ → Bool) (n i : ℕ) : Type 0 where

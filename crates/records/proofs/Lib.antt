@@ -3,4 +3,4 @@ pub mod LimitLaws
 pub mod GroupLaws
 pub mod RefusalLaws
 pub mod FirstBad
-pub mod ChainLaws
+pub mod CheckOrderLaws

@@ -1,6 +1,6 @@
 -- The root of the definitions of `records`.
 pub mod Refusals
-pub mod Chain
+pub mod CheckOrder
 pub mod Groups
 pub mod Rows
 pub mod Shapes

@@ -17,7 +17,7 @@ use Rattle.records.specs.Limits.{mostPoints}
 use Rattle.records.specs.Shapes.{Traverse, traverse}
 use Rattle.records.specs.declared.Check.{Check}
 use Rattle.records.specs.declared.Check.the-variants.{Pass, Fail}
-use Rattle.records.specs.Chain.{_then_}
+use Rattle.records.specs.CheckOrder.{_then_}
 use Rattle.march.specs.declared.Call.{Call}
 use Rattle.march.specs.Answers.{Told, accepted, refused}
 use Rattle.march.specs.Given.{given, segments}

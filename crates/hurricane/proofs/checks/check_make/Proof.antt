@@ -11,7 +11,7 @@ use lib.ListN.{length}
 use lib.IntN.{ℤ}
 use Rattle.records.specs.declared.Check.{Check}
 use Rattle.records.specs.declared.Kind.the-variants.{Lent, StormValue, WindRadii}
-use Rattle.records.specs.Chain.{need, _then_, firstBad, each}
+use Rattle.records.specs.CheckOrder.{need, _then_, firstBad, each}
 use Rattle.records.specs.Limits.{countOk, mostPoints}
 use Rattle.records.specs.Refusals.{refusal}
 use Rattle.records.proofs.GroupLaws.{wholes-fit}

@@ -6,7 +6,7 @@ use Prim.Native.Nat.{ℕ, _-_}
 use lib.ListN.{length}
 use Rattle.records.specs.Groups.{rowCount}
 use Rattle.records.proofs.GroupLaws.{wholes-fit}
-use Rattle.records.specs.Chain.{firstBad}
+use Rattle.records.specs.CheckOrder.{firstBad}
 use Rattle.march.specs.Checks.{placesOk, rowsOk, lentCheck}
 use Rattle.march.proofs.checks.check_lent.Statement.{statement}
 use Rattle.march.proofs.checks.check_lent.Tie as tie

@@ -13,7 +13,7 @@ use Rattle.records.specs.Shapes.{Traverse, count}
 use Rattle.records.specs.Limits.{countOk, headOk}
 use Rattle.records.proofs.GroupLaws.{wholes-fit}
 use Rattle.records.specs.declared.Check.{Check}
-use Rattle.records.specs.Chain.{need, _then_, each, firstBad}
+use Rattle.records.specs.CheckOrder.{need, _then_, each, firstBad}
 use Rattle.march.specs.Checks.{stationsOk, spacingOk, traverseCheck}
 use Rattle.march.proofs.checks.check_traverse.Statement.{statement}
 use Rattle.march.proofs.checks.check_traverse.Tie as tie

@@ -1,5 +1,5 @@
--- How checks follow each other: the first that fails decides, and within it the first bad place. Every call that checks what it is given is a chain
--- of these, a row of the paper's table to a line.
+-- The order of checks: the first that fails decides, and within it the first bad place. Every call checks what it is given by
+-- these, a row of the paper's table to a line.
 use mathlib.Core.Bool.{Bool, true, false, cond}
 use Prim.Native.Nat.{ℕ, zero, suc, _+_}
 use lib.Dec.{eqb}

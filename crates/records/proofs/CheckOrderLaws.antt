@@ -1,4 +1,4 @@
--- What a chain of checks lets pass, and that what is as it should be passes. Assumes nothing.
+-- What checks one after the other let pass, and that what is as it should be passes. Assumes nothing.
 use mathlib.Core.Path.{_≡_, refl}
 use mathlib.Core.Bool.{Bool, true, false}
 use native.Mathlib.Omega.{arith}
@@ -9,7 +9,7 @@ use Rattle.records.specs.declared.Check.the-variants.{Pass, Fail}
 use Rattle.records.specs.declared.Kind.{Kind}
 use Rattle.records.specs.declared.Refusal.{Refusal}
 use Rattle.records.specs.Refusals.{refusal}
-use Rattle.records.specs.Chain.{need, _then_, firstBad, each}
+use Rattle.records.specs.CheckOrder.{need, _then_, firstBad, each}
 use Rattle.records.proofs.FirstBad.{none-bad, all-ok}
 
 never : (refusal : Refusal) → Fail refusal ≡ Pass → ⊥
