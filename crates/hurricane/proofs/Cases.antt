@@ -18,7 +18,7 @@ use Rattle.hurricane.specs.Factor.{scaledFactor, factorEntry}
 use Rattle.hurricane.specs.Field.{distanceOf, hundredthsOf, deficitOf, straight, windFrom, windOf, pointFor}
 use Rattle.hurricane.specs.Groups.{windRowAt, planePointAt}
 use Rattle.hurricane.specs.Limits.{pressuresOk, hurricaneOk, windCountOk, windRowOk, planePointOk}
-use Rattle.hurricane.specs.Make.{ToldMade, made, notMade, LeftMade, asked, makeOf}
+use Rattle.hurricane.specs.Make.{made, notMade, asked, makeOf}
 
 -- ---- a point
 

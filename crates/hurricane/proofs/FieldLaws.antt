@@ -22,9 +22,9 @@ use Rattle.ranges.proofs.LinearSolver.{zomega, says, _&_}
 use Rattle.records.specs.Groups.{at}
 use Rattle.records.proofs.LimitLaws.{Between}
 use Rattle.hurricane.specs.declared.WindRow.{WindRow}
-use Rattle.hurricane.specs.Bounds.{ApartIn, DropIn, WindRowIn, WindsIn, TableIn, BetweenRows}
+use Rattle.hurricane.specs.Bounds.{ApartIn, DropIn, WindsIn, TableIn, BetweenRows}
 use Rattle.hurricane.specs.Groups.{windCount, windRowAt}
-use Rattle.hurricane.specs.Field.{distanceOf, hundredthsOf, deficitOf, straight, windFrom, windOf}
+use Rattle.hurricane.specs.Field.{distanceOf, hundredthsOf, straight, windFrom, windOf}
 
 -- ---- the distance
 

@@ -30,7 +30,7 @@ use Rattle.hurricane.specs.Field.{distanceOf, hundredthsOf, deficitOf, w
 use Rattle.hurricane.specs.Groups.{windCount, windRowAt, siteCount, planePointAt}
 use Rattle.hurricane.specs.Limits.{pressureOk, dropOk, pressuresOk, radiusOk, planeOk, hurricaneOk, windCountOk, windRadiusOk, windRowOk, planePointOk}
 use Rattle.hurricane.specs.Checks.{windRowsOk, sitesOk, risingOk, makeCheck}
-use Rattle.hurricane.specs.Make.{Asked, asked, made, LeftMade, checkOf, pointMade, madeNumbers, afterCheck, makeOf}
+use Rattle.hurricane.specs.Make.{Asked, asked, made, checkOf, pointMade, madeNumbers, afterCheck, makeOf}
 use Rattle.hurricane.proofs.FactorTable.{right-rule}
 use Rattle.hurricane.proofs.FieldLaws.{hundredths-place, share-in, wind-in}
 

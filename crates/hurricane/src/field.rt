@@ -10,12 +10,11 @@ use ranges::whole_root;
 use records::Point;
 use records::groups::whole_groups;
 ghost use mathlib.Core.Path.{_≡_};
-ghost use Prim.Native.Nat.{_≤_, _<_};
+ghost use Prim.Native.Nat.{_<_};
 ghost use lib.IntN.{pos, natAbs};
 ghost use lib.Signed.{_≤ℤ_};
 ghost use Rattle.records.specs.Groups.{at};
 ghost use Rattle.hurricane.specs.Bounds.{ApartIn, DropIn, HurricaneIn, PlanePointIn, WindsIn, TableIn, BetweenRows};
-ghost use Rattle.hurricane.specs.Groups.{windCount};
 ghost use Rattle.hurricane.specs.Field.{distanceOf, hundredthsOf, deficitOf, straight, windOf, pointFor};
 
 // The scale of the table.

@@ -29,7 +29,6 @@ use Rattle.hurricane.specs.Groups.{siteCount}
 use Rattle.hurricane.specs.Make.{Asked, asked, LeftMade, checkOf, madeNumbers, afterCheck, makeOf, leftBy}
 use Rattle.hurricane.proofs.FactorTable.{entry-rule}
 use Rattle.hurricane.proofs.MakeLaws.{point-in, made-length, made-point}
-use Rattle.march.specs.declared.State.{State}
 use Rattle.march.specs.Checks.{timesOk, pointsOk, recordCheck}
 use Rattle.lent.specs.Numbers.{answerNumbers, refusedAnswer, wrongBuffer}
 use Rattle.lent.specs.Making.{LeftMake, leftMake, afterMade, makeWith, makeCall, Takeable, MadeTakeable}

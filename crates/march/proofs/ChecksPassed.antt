@@ -13,16 +13,13 @@ use lib.Signed.{leZ, _≤ℤ_}
 use Rattle.ranges.specs.Bounds.{Sized}
 use Rattle.ranges.proofs.Branches.{le-true}
 use Rattle.ranges.proofs.LinearSolver.{zomega, says, _&_}
-use Rattle.records.specs.declared.Check.{Check}
-use Rattle.records.specs.declared.Check.the-variants.{Pass, Fail}
+use Rattle.records.specs.declared.Check.the-variants.{Pass}
 use Rattle.records.specs.declared.Station.{Station}
 use Rattle.records.specs.declared.Point.{Point}
 use Rattle.records.specs.declared.Row.{Row}
-use Rattle.records.specs.declared.Kind.{Kind}
 use Rattle.records.specs.declared.Kind.the-variants.{Points, TraverseValue, Distance, Lent, RecordValue}
-use Rattle.records.specs.declared.Refusal.{Refusal}
 use Rattle.records.specs.Refusals.{refusal}
-use Rattle.records.specs.CheckOrder.{need, _then_, firstBad, each}
+use Rattle.records.specs.CheckOrder.{need, _then_, each}
 use Rattle.records.specs.Groups.{stationAt, pointCount, pointAt, rowCount, rowAt}
 use Rattle.records.specs.Rows.{rowFlux}
 use Rattle.records.specs.Shapes.{Traverse, Record, count}

@@ -1,6 +1,6 @@
 -- Powers, factorials and sums of fractions, exact: what the tables of documents 01 and 02 are defined by.
 use Prim.Native.Nat.{ℕ, zero, suc, _*_}
-use lib.IntN.{ℤ, pos, negsuc}
+use lib.IntN.{pos, negsuc}
 use Rattle.ranges.specs.Fraction.{Frac, whole, _+F_, _*F_, _/F_}
 
 -- k!

@@ -13,7 +13,7 @@ use lib.Seq.{sets, sets-eq, length-sets, take-at, take-all, getD-take, getD-appe
 use lib.IntN.{ℤ, pos}
 use Rattle.records.specs.declared.Point.{Point}
 use Rattle.records.specs.declared.Row.{Row}
-use Rattle.records.specs.Groups.{wholes, at, pointCount, pointAt, ofPoint, rowAt, ofRow, groups, flat}
+use Rattle.records.specs.Groups.{wholes, at, pointAt, ofPoint, rowAt, ofRow, groups, flat}
 use Rattle.records.specs.Rows.{freshRow}
 
 -- as many groups as are counted are there

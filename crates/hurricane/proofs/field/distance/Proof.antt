@@ -1,12 +1,10 @@
 -- `hurricane::field::distance` meets its contract. Assumes nothing.
 use borrow.Author.Needs.{sfits-of}
-use mathlib.Core.Path.{_≡_, _∙_}
-use lib.IntN.{pos, _+ℤ_, _-ℤ_, _*ℤ_}
+use mathlib.Core.Path.{_∙_}
 use lib.Signed.{ltZ-yes}
 use mir.Facts.{toZ-ofZ}
 use mir.Syntax.{w64}
 use mir.Val.{SFits}
-use Rattle.ranges.specs.Root.{rootOf}
 use Rattle.hurricane.specs.Field.{distanceOf}
 use Rattle.hurricane.proofs.FieldLaws.{across-fits, along-fits, across-square-fits, along-square-fits, squares-fit, squares-nn}
 use Rattle.hurricane.proofs.field.distance.Statement.{statement}

@@ -1,8 +1,7 @@
 -- `hurricane::field::point_for` meets its contract. Assumes nothing.
 use borrow.Author.Needs.{needs, sfits-of}
-use mathlib.Core.Path.{_≡_, sym, ap, subst, _∙_}
-use lib.IntN.{ℤ, pos, natAbs}
-use lib.Signed.{_≤ℤ_}
+use mathlib.Core.Path.{_≡_, ap, _∙_}
+use lib.IntN.{ℤ, natAbs}
 use mir.Facts.{toZ-ofZ}
 use mir.Syntax.{w64}
 use mir.Val.{SFits, toZ, ofZ}

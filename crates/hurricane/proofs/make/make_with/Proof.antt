@@ -3,12 +3,11 @@ use borrow.Author.Needs.{needs}
 use mathlib.Core.Path.{_≡_, sym, ap, subst, _∙_}
 use native.Mathlib.Omega.{arith}
 use Prim.Native.Nat.{ℕ, _*_, _≤_}
-use lib.ListN.{length, take}
+use lib.ListN.{length}
 use lib.Seq.{length-take-le}
 use Rattle.records.specs.declared.Check.the-variants.{Pass}
 use Rattle.records.specs.Groups.{at}
 use Rattle.hurricane.specs.Make.{Asked, asked, checkOf, makeOf}
-use Rattle.hurricane.specs.Groups.{siteCount}
 use Rattle.hurricane.proofs.MakeLaws.{MakeIn, make-in, made-left}
 use Rattle.hurricane.proofs.make.make_with.Statement.{statement}
 use Rattle.hurricane.proofs.make.make_with.Tie as tie
