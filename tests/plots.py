@@ -26,7 +26,7 @@ from pathlib import Path
 
 ROOT = Path(__file__).resolve().parent.parent
 EXAMPLE = ROOT / "examples" / "hampton-beach"
-PICTURE = ROOT / "docs" / "hampton-beach.svg"
+HURRICANE = ROOT / "examples" / "hurricane"
 TITLE = "Water level at the shore"
 USAGE = b"usage: tools/plot LISTING PICTURE.svg|PICTURE.png [GAUGE.csv]\n"
 SIZE = 900, 600
@@ -511,13 +511,13 @@ def no_temporary_folder(bench):
     bench.refuse(folder, "listing", "x.svg", TMPDIR=spare)
 
 
-# The README
+# The READMEs
 
 def commands(page):
     """The two commands of a page that draw the picture, one after the other."""
-    two = r"^ *(\./run \S+ > listing\.txt)\n *(tools/plot listing\.txt .*)$"
+    two = r"^ *(\S.* > listing\.txt)\n *(tools/plot listing\.txt .*)$"
     found = re.findall(two, page.read_text(), re.M)
-    need(len(found) == 1, f"{page.relative_to(ROOT)} has {len(found)} times a line `./run .. > "
+    need(len(found) == 1, f"{page.relative_to(ROOT)} has {len(found)} times a line `.. > "
          "listing.txt` and below it one that begins `tools/plot listing.txt`")
     return found[0]
 
@@ -528,29 +528,36 @@ def example_listing():
     return done.stdout
 
 
+def hurricane_listing():
+    """What target/hurricane prints: run_examples compares them."""
+    return (HURRICANE / "expected.txt").read_bytes()
+
+
 def version_of(svg):
     return re.search(rb"<desc>.*?</desc>", svg).group()
 
 
-def readme_draws_picture(bench):
-    run, plot = commands(ROOT / "README.md")
-    name = str(PICTURE.relative_to(ROOT))
-    need(run == f"./run {EXAMPLE.relative_to(ROOT)} > listing.txt", f"README.md runs {run!r}")
-    need(f"]({name})" in (ROOT / "README.md").read_text(), f"README.md does not show {name}")
+def page_draws_picture(bench, page, example, command, listing):
+    """A page shows the picture named after an example, and has the commands that draw it."""
+    run, plot = commands(page)
+    name, here = f"docs/{example.name}.svg", page.relative_to(ROOT)
+    need(run == f"{command} > listing.txt", f"{here} runs {run!r}")
+    shown = os.path.relpath(ROOT / name, page.parent)
+    need(f"]({shown})" in page.read_text(), f"{here} does not show {shown}")
     words = shlex.split(plot)
-    need(len(words) == 4 and words[2] == name, f"README.md draws {plot!r}")
-    folder = bench.folder(listing=example_listing())
+    need(len(words) == 4 and words[2] == name, f"{here} draws {plot!r}")
+    folder = bench.folder(listing=listing())
     bench.run(folder, "listing", "x.svg", str(ROOT / words[3]))
-    drawn, kept = (folder / "x.svg").read_bytes(), PICTURE.read_bytes()
+    drawn, kept = (folder / "x.svg").read_bytes(), (ROOT / name).read_bytes()
     # another gnuplot may set the same picture otherwise
     if version_of(drawn) == version_of(kept):
         need(drawn == kept, f"{name} is another picture")
     for data in drawn, kept:
-        judge(data, example_listing(), published(), "published")
+        judge(data, listing(), published(example), "published")
 
 
-def published():
-    lines = (EXAMPLE / "published.csv").read_text().splitlines()[1:]
+def published(example):
+    lines = (example / "published.csv").read_text().splitlines()[1:]
     return [tuple(map(float, line.split(","))) for line in lines]
 
 
@@ -646,9 +653,12 @@ def test_outputs(bench):
     bench.test("gnuplot draws nothing", gnuplot_fails, ": > picture\n", b"could not be drawn")
 
 
-def test_readme(bench):
-    bench.test("README's commands draw README's picture", readme_draws_picture)
+def test_readmes(bench):
+    bench.test("README's commands draw README's picture", page_draws_picture,
+               ROOT / "README.md", EXAMPLE, f"./run {EXAMPLE.relative_to(ROOT)}", example_listing)
     bench.test("the example's README has the same commands", pages_agree)
+    bench.test("the hurricane's commands draw its picture", page_draws_picture,
+               HURRICANE / "README.md", HURRICANE, "target/hurricane", hurricane_listing)
 
 
 def main():
@@ -657,7 +667,7 @@ def main():
     subprocess.run([plot.parent / "setup", "plot"], stdout=sys.stderr, check=True)
     with tempfile.TemporaryDirectory() as root:
         bench = Bench(plot, root)
-        for some in test_pictures, test_names, test_inputs, test_outputs, test_readme:
+        for some in test_pictures, test_names, test_inputs, test_outputs, test_readmes:
             some(bench)
     print(f"{bench.passed} passed, {bench.failed} failed")
     return 0 if bench.failed == 0 else 1
