@@ -4,7 +4,6 @@ use super::Hurricane;
 use super::PlanePoint;
 use super::WindRow;
 use super::groups::wind_row_at;
-use ranges::divide;
 use ranges::floor_div;
 use ranges::whole_root;
 use records::Point;
@@ -58,8 +57,7 @@ pub fn deficit(table: &[i64], central: i64, edge: i64, m: usize) -> i64
     floor_div((edge - central) * (WHOLE - factor), WHOLE)
 }
 
-// The wind at distance r from two rows on either side of it. A falling wind's change is negative: the low end of the quotient is rounded down too,
-// not toward zero.
+// The wind at distance r from two rows on either side of it. A falling wind's change is negative: it is rounded down too, not toward zero.
 pub fn wind_between(a: WindRow, b: WindRow, r: i64) -> i64
     requires { ⌜ BetweenRows a b r ⌝ }
     ensures { λ w. ⌜ w ≡ straight a b r ⌝ }
@@ -68,8 +66,7 @@ pub fn wind_between(a: WindRow, b: WindRow, r: i64) -> i64
     let to = b.radius;
     let start = a.wind;
     let end = b.wind;
-    let change = divide((end - start) * (r - from), to - from);
-    start + change.low
+    start + floor_div((end - start) * (r - from), to - from)
 }
 
 // The wind at distance r by the list.

@@ -1,12 +1,11 @@
 -- `hurricane::field::wind_between` meets its contract. Assumes nothing.
 use borrow.Author.Needs.{sfits-of}
-use mathlib.Core.Path.{_≡_, sym, ap, ap₂, subst, _∙_}
+use mathlib.Core.Path.{_≡_, sym, ap, subst, _∙_}
 use lib.IntN.{ℤ, pos, _+ℤ_, _-ℤ_, _*ℤ_}
 use lib.Signed.{_<ℤ_}
 use mir.Facts.{toZ-ofZ}
 use mir.Syntax.{w64}
 use mir.Val.{SFits, toZ, ofZ}
-use Rattle.ranges.specs.declared.Range.{Range}
 use Rattle.ranges.specs.Division.{floorDiv}
 use Rattle.hurricane.specs.Field.{straight}
 use Rattle.hurricane.proofs.FieldLaws.{span-pos, wind-change-fits, far-fits, change-fits, span-fits, straight-is, straight-fits}
@@ -47,52 +46,46 @@ module _ (c : tie.After-struct-told4) where
   top-is : read (read (s .args .b .wind) -ℤ read (s .args .a .wind)) *ℤ read (read (s .args .r) -ℤ read (s .args .a .radius)) ≡ (s .args .b .wind -ℤ s .args .a .wind) *ℤ (s .args .r -ℤ s .args .a .radius)
   top-is = let f = wind-change-fits _ _ _ (s .pre) in let g = far-fits _ _ _ (s .pre) in rw (change-is, far-is, toZ-ofZ f, toZ-ofZ g)
 
-sub-divide : tie.Need-sub-divide
-sub-divide c = subst (SFits w64) (sym (change-is c)) (wind-change-fits _ _ _ (s c .pre))
+sub-floor-div : tie.Need-sub-floor-div
+sub-floor-div c = subst (SFits w64) (sym (change-is c)) (wind-change-fits _ _ _ (s c .pre))
 
-sub-divide-2 : tie.Need-sub-divide-2
-sub-divide-2 c = subst (SFits w64) (sym (far-is c)) (far-fits _ _ _ (s c .pre))
+sub-floor-div-2 : tie.Need-sub-floor-div-2
+sub-floor-div-2 c = subst (SFits w64) (sym (far-is c)) (far-fits _ _ _ (s c .pre))
 
-mul-divide : tie.Need-mul-divide
-mul-divide c = subst (SFits w64) (sym (top-is c)) (change-fits _ _ _ (s c .pre))
+mul-floor-div : tie.Need-mul-floor-div
+mul-floor-div c = subst (SFits w64) (sym (top-is c)) (change-fits _ _ _ (s c .pre))
 
-sub-divide-3 : tie.Need-sub-divide-3
-sub-divide-3 c = subst (SFits w64) (sym (span-is c)) (span-fits _ _ _ (s c .pre))
+sub-floor-div-3 : tie.Need-sub-floor-div-3
+sub-floor-div-3 c = subst (SFits w64) (sym (span-is c)) (span-fits _ _ _ (s c .pre))
 
-divide-requires : tie.Need-divide-requires
-divide-requires c κs =
+floor-div-requires : tie.Need-floor-div-requires
+floor-div-requires c κs =
     let f = span-fits _ _ _ (s c .pre) in
     let e : read (s c .args .b .radius -ℤ s c .args .a .radius) ≡ s c .args .b .radius -ℤ s c .args .a .radius = toZ-ofZ f in
     subst (λ z. pos 0 <ℤ z) (sym (ap read (span-is c) ∙ e)) (span-pos _ _ _ (s c .pre))
 
 -- the quotient, and the sum with the first row's wind
-quotient-is : (c : tie.After-divide) → let t = s (c .before) in
-    c .divide .result .low ≡ floorDiv ((t .args .b .wind -ℤ t .args .a .wind) *ℤ (t .args .r -ℤ t .args .a .radius)) (t .args .b .radius -ℤ t .args .a .radius)
+quotient-is : (c : tie.After-floor-div) → let t = s (c .before) in
+    c .floor-div .result ≡ floorDiv ((t .args .b .wind -ℤ t .args .a .wind) *ℤ (t .args .r -ℤ t .args .a .radius)) (t .args .b .radius -ℤ t .args .a .radius)
 quotient-is c =
     let d = c .before in
     let t = s d in
     let f = change-fits _ _ _ (t .pre) in
     let g = span-fits _ _ _ (t .pre) in
-    let e : c .divide .result .low ≡ floorDiv (read (read (read (t .args .b .wind) -ℤ read (t .args .a .wind)) *ℤ read (read (t .args .r) -ℤ read (t .args .a .radius)))) (read (read (t .args .b .radius) -ℤ read (t .args .a .radius))) =
-    ap (λ (q : Range). q .low) (c .divide .ensures) in
+    let e : c .floor-div .result ≡ floorDiv (read (read (read (t .args .b .wind) -ℤ read (t .args .a .wind)) *ℤ read (read (t .args .r) -ℤ read (t .args .a .radius)))) (read (read (t .args .b .radius) -ℤ read (t .args .a .radius))) = c .floor-div .ensures in
     rw (top-is d, span-is d, toZ-ofZ f, toZ-ofZ g) at e
 
--- the place of the sum
-abbrev divided : tie.After-struct-told5 → tie.After-divide
-divided c = c .before .before
-
-sum-is : (c : tie.After-struct-told5) → let t = s (divided c .before) in read (t .args .a .wind) +ℤ read (divided c .divide .result .low) ≡ straight (t .args .a) (t .args .b) (t .args .r)
+sum-is : (c : tie.After-floor-div) → let t = s (c .before) in read (t .args .a .wind) +ℤ read (c .floor-div .result) ≡ straight (t .args .a) (t .args .b) (t .args .r)
 sum-is c =
-    let d = divided c in
-    let t = s (d .before) in
-    let f : SFits w64 (d .divide .result .low) = sfits-of (c .struct-told5 .given .0 .1) in
-    ap₂ (λ (x y : ℤ). x +ℤ y) (toZ-ofZ (start-fits (d .before))) (toZ-ofZ f ∙ quotient-is d) ∙ straight-is _ _ _ (t .pre)
+    let t = s (c .before) in
+    let f : SFits w64 (c .floor-div .result) = sfits-of (c .floor-div .ok) in
+    rw (toZ-ofZ (start-fits (c .before)), toZ-ofZ f, quotient-is c) (straight-is _ _ _ (t .pre))
 
 add-result : tie.Need-add-result
-add-result c = subst (SFits w64) (sym (sum-is c)) (straight-fits _ _ _ (s (divided c .before) .pre))
+add-result c = subst (SFits w64) (sym (sum-is c)) (straight-fits _ _ _ (s (c .before) .pre))
 
 returns : tie.Need-returns
-returns c = ap read (sum-is c) ∙ toZ-ofZ (straight-fits _ _ _ (s (divided c .before) .pre))
+returns c = ap read (sum-is c) ∙ toZ-ofZ (straight-fits _ _ _ (s (c .before) .pre))
 
 pub wind-between-spec : {M : Type 1} → statement M
-wind-between-spec = tie.close (tie.spec sub-divide sub-divide-2 mul-divide sub-divide-3 divide-requires add-result returns)
+wind-between-spec = tie.close (tie.spec sub-floor-div sub-floor-div-2 mul-floor-div sub-floor-div-3 floor-div-requires add-result returns)
