@@ -18,7 +18,7 @@ use std::io::{Error, ErrorKind, Read};
 // ---- failures
 
 // Tells a failure on standard error, by the file's name and what the system says. Where that cannot be written, nobody is left to tell.
-pub fn tell(rt: &HostRuntime, name: &str, error: &Error) {
+fn tell(rt: &HostRuntime, name: &str, error: &Error) {
     let _told = eprintln!(rt; "{name}: {error}");
 }
 

@@ -5,16 +5,15 @@ use mathlib.Core.Path.{◌≡◌, refl, sym, ap₂, subst, ◌∙◌}
 use mathlib.Core.Bool.{Bool, true, false, cond}
 use mathlib.Core.Logic.{◌⊎◌, inl, inr}
 use mathlib.Core.List.{[], ◌∷◌}
-use Prim.Native.Nat.{zero, suc}
 use native.Mathlib.Omega.{arith}
-use lib.Dec.{ltb→lt, lt→ltb}
+use lib.Dec.{ltb→lt}
 use lib.IntN.{ℤ, pos, negsuc, ◌+ℤ◌, ◌-ℤ◌, ◌*ℤ◌}
-use lib.Signed.{le_z, quot_z, rem_z, ◌≤ℤ◌, ◌<ℤ◌, le_z_yes, lt_z_yes}
+use lib.Signed.{le_z, quot_z, rem_z, ◌≤ℤ◌, ◌<ℤ◌, le_z_yes}
 use mir.Syntax.{w64}
-use mir.Val.{SFits, of_z}
+use mir.Val.{SFits}
 use Rattle.ranges.specs.Bounds.{Sized}
 use Rattle.ranges.specs.Fraction.{whole, pos-mul}
-use Rattle.ranges.proofs.Branches.{le-true, le-false, le_yes, bits-same}
+use Rattle.ranges.proofs.Branches.{le-true, le-false, le_yes}
 use Rattle.ranges.proofs.DivisionLaws.{floor-times, rest-times}
 use Rattle.ranges.proofs.DivisionSteps.{floor-pos}
 use Rattle.ranges.proofs.Fits.{sized-mul, sized-add, sized-literal, sized-fits}
@@ -136,15 +135,6 @@ stress-right = record {
 pub stress-sized : (w : ℤ) → Wind w → Sized (pos 128640000) (stressOf w)
 unfolding q
 stress-sized w h = subst (Sized (pos 128640000)) (sym (stress-is w h)) (numerator-sized w h)
-
--- what the code's test for a calm tells
-pub is-calm : {w : ℤ} → SFits w64 w → of_z w64 w ≡ 0 → w ≡ pos 0
-is-calm f e = bits-same f (record { sfits = omega arith }) e
-
-pub no-calm : (w : ℤ) → Wind w → (of_z w64 w ≡ 0 → ⊥) → pos 0 <ℤ w
-no-calm (pos zero) h k = absurd (k refl)
-no-calm (pos (suc n)) h k = lt_z_yes (lt→ltb 0 (suc n) (omega arith))
-no-calm (negsuc n) h k = absurd h.low.le
 
 -- what the code makes of a wind that is no calm, its coefficient's numbers being n and s
 pub record Times (w n s : ℤ) : Type 0 where

@@ -14,16 +14,20 @@ pub struct PointStress {
     pub onshore: i64,
 }
 
-// The stress q of a wind: k, in 10⁻⁷, times w², in 10⁻² mph², where the division comes out even. A calm has no k.
+// The stress q of a wind: k, in 10⁻⁷, times w², in 10⁻² mph², where the division comes out even. A calm has no k. The limits are named again so
+// that the compiler sees them: then it knows that the product fits, and leaves the numerator where the division stands.
 pub fn stress(w: i64) -> i64
     requires { Wind w }
     ensures { result ≡ stressOf w }
 {
-    if w == 0 {
-        return 0;
+    match w {
+        0 => 0,
+        1..=2000 => {
+            let k = coefficient(w);
+            k.numerator * (w * w) / k.square
+        }
+        _ => unreachable!(),
     }
-    let k = coefficient(w);
-    k.numerator * (w * w) / k.square
 }
 
 // The stress of a wind at a point: q is worked out once, for both parts.

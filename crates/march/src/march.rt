@@ -14,7 +14,8 @@ use records::groups::{point_at, row_at, station_at};
 use records::{Check, Row};
 use segment::{SegmentAnswer, Site, Weather, march_segment};
 
-// Point i, from 0, as the end of a segment.
+// Point i, from 0, as the end of a segment. Not inlined into the march it makes a record of 2 segments some 10 % slower.
+#[inline(always)]
 pub fn end_at(table: &[u16; 901], points: &[i64], winds: &[i64], i: usize) -> End
     requires { (TableRight table.now) × ((2 * i + 1 < length points.now) × ((3 * i + 2 < length winds.now) × (PointIn (pointAt winds.now i)))) }
     ensures { result ≡ endAt points.now winds.now i }
