@@ -14,7 +14,7 @@ use records::groups::{point_at, row_at, station_at};
 use records::{Check, Row};
 use segment::{SegmentAnswer, Site, Weather, march_segment};
 
-// Point i, from 0, as the end of a segment. Not inlined into the march it makes a record of 2 segments some 10 % slower.
+// Point i, from 0, as the end of a segment. It belongs into the march's loop: called from there, it makes a record of few segments slower.
 #[inline(always)]
 pub fn end_at(table: &[u16; 901], points: &[i64], winds: &[i64], i: usize) -> End
     requires { (TableRight table.now) × ((2 * i + 1 < length points.now) × ((3 * i + 2 < length winds.now) × (PointIn (pointAt winds.now i)))) }

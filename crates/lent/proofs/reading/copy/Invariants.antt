@@ -1,3 +1,4 @@
+-- The first i numbers are copied; those that are left fall.
 use Rattle.std.proofs.Common.{length, ◌-◌}
 use Rattle.lent.proofs.Sets.{Copied}
 use Rattle.lent.proofs.reading.copy.Given as goal

@@ -1,9 +1,9 @@
+-- The search that is left gives what the whole search gives; the turns that are left fall.
 use Rattle.std.proofs.Common.{◌-◌}
 use Rattle.records.proofs.FirstBad.{SearchInv}
 use Rattle.march.specs.Checks.{pointsOk}
 use Rattle.march.proofs.checks.bad_point.Given as goal
 
--- the search that is left gives what the whole search gives
 abbrev pub invariant-loop-i : goal.invariant-loop-i
 invariant-loop-i l = SearchInv (pointsOk l.winds) l.n l.i
 

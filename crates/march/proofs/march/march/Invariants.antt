@@ -1,3 +1,4 @@
+-- The march that is left, with the end where the next segment begins and the setup before it.
 use Rattle.std.proofs.Common.{◌≡◌, ℕ, List}
 use Rattle.std.specs.Prelude.{ℤ}
 use Rattle.ranges.specs.declared.Range.{Range}

@@ -1,3 +1,4 @@
+-- The rows of the first i legs are written; the turns that are left fall.
 use Rattle.std.proofs.Common.{◌-◌}
 use Rattle.records.specs.Groups.{ofRow}
 use Rattle.records.proofs.GroupLaws.{Stored}
@@ -5,7 +6,6 @@ use Rattle.segment.specs.declared.Leg.{Leg}
 use Rattle.march.specs.March.{legAt}
 use Rattle.march.proofs.take.commit_rows.Given as goal
 
--- the rows of the first i legs are written
 abbrev pub invariant-loop-i : goal.invariant-loop-i
 invariant-loop-i l = Stored 3 (λ (g : Leg). ofRow g.row) (legAt l.work) l.n l.rows l.i
 

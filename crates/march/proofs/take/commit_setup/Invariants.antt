@@ -1,3 +1,4 @@
+-- The setup ranges of the first i legs are written; the turns that are left fall.
 use Rattle.std.proofs.Common.{◌-◌}
 use Rattle.records.specs.Groups.{ofRange}
 use Rattle.records.proofs.GroupLaws.{Stored}
@@ -5,7 +6,6 @@ use Rattle.segment.specs.declared.Leg.{Leg}
 use Rattle.march.specs.March.{legAt}
 use Rattle.march.proofs.take.commit_setup.Given as goal
 
--- the setup ranges of the first i legs are written
 abbrev pub invariant-loop-i : goal.invariant-loop-i
 invariant-loop-i l = Stored 2 (λ (g : Leg). ofRange g.setup) (legAt l.work) l.k l.setup l.i
 
