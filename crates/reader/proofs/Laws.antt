@@ -1,11 +1,11 @@
--- What one digit, one value and one line more do to what is yet to read and to the numbers that are kept. Assumes nothing.
+-- What one value and one line more do to what is yet to read and to the numbers that are kept. Assumes nothing.
 use mathlib.Core.Path.{◌≡◌, refl, sym, ap, subst, ◌∙◌}
 use mathlib.Core.Bool.{Bool, true, false, cond, ◌&&◌}
 use mathlib.Core.List.{List, [], ◌∷◌}
 use Prim.Native.Nat.{ℕ, zero, suc, ◌+◌, ◌-◌, ◌*◌, ◌<◌, ◌≤◌, ◌^◌}
 use native.Mathlib.Omega.{arith}
 use native.Mathlib.Numerals.{add-one}
-use native.Mathlib.Nat.{pow-suc, pow-le-pow_right, suc-mul, mul-le-mul_right}
+use native.Mathlib.Nat.{suc-mul, mul-le-mul_right}
 use lib.ListN.{length, take, drop, length-set, take-append-drop}
 use lib.Seq.{length-take-le, drop-drop, take-suc-set, drop-set-lt, get_or-take}
 use lib.Dec.{leb, eqb, eqb-suc-zero}
@@ -16,7 +16,8 @@ use borrow.Author.Tests.{lt-ltb, le-ltb, ltb-true, ltb-false, ne_eqb, eq-eqb, eq
 use Rattle.records.specs.declared.Kind.TheVariants.{Malformed, Ended, Differs}
 use Rattle.records.specs.Refusals.{refusal}
 use Rattle.records.proofs.LimitLaws.{and_right}
-use Rattle.reader.specs.Text.{more, byte, digitAt, digits, worth, goodOf, signedValue, negativeAt, startAt, goodAt, valueAt, pastAt, closeOf, eqZ}
+use Rattle.reader.proofs.Digits.{Scan, scan-ended, scan-count, scan-value}
+use Rattle.reader.specs.Text.{more, byte, digits, goodOf, signedValue, negativeAt, startAt, goodAt, valueAt, pastAt, closeOf, eqZ}
 use Rattle.reader.specs.Lines.{Leaves, leaves, laid, repeated, keptWith, sameWith, keptLeft, full, bad, closedAt, valuesAt, LinesRead, linesRead, linesAt, linesLeft}
 use Rattle.reader.specs.declared.Kept.{Kept}
 use Rattle.reader.specs.declared.Lines.{Lines}
@@ -31,73 +32,10 @@ present [] i b p h = omega arith
 present (x ∷ s) zero b p h = omega arith
 present (x ∷ s) (suc i) b p h = let r = present s i b p h in omega arith
 
-pub within : (s : List ℕ) (i : ℕ) → digitAt s i < 10 → i < length s
-unfolding digitAt
-within [] i h = omega arith
-within (x ∷ s) zero h = omega arith
-within (x ∷ s) (suc i) h = let r = within s i h in omega arith
-
 pub close-pos : (n : ℕ) → 0 < closeOf n
 unfolding closeOf
 close-pos zero = omega arith
 close-pos (suc n) = simp eqb-suc-zero (omega arith)
-
--- ---- digits
-
-digits-none : (s : List ℕ) (n at : ℕ) → 10 ≤ digitAt s at → digits s n at ≡ 0
-unfolding digits
-digits-none s zero at h = refl
-digits-none s (suc n) at h = simp (le-ltb _ _ h)
-
--- what holds while digits are read: `count` of them from `start` on, worth `value`, and `d` is the next
-pub record Scan (s : List ℕ) (start at count value d : ℕ) : Type 0 where
-  pub place : at ≡ start + count
-  pub few : count ≤ 9
-  pub small : value < 10 ^ count
-  pub here : d ≡ digitAt s at
-  pub many : digits s 10 start ≡ count + digits s (10 - count) at
-  pub same : worth s 0 (digits s 10 start) start ≡ worth s value (digits s (10 - count) at) at
-
-pub scan-none : (s : List ℕ) (start d : ℕ) → d ≡ digitAt s start → Scan s start start 0 0 d
-scan-none s start d e = record { place = omega arith; few = omega arith; small = omega arith; here = e; many = omega arith; same = refl }
-
-module _ {s : List ℕ} {start at count value d : ℕ} (h : Scan s start at count value d) where
-  pub scan-size : value < 1000000000
-  scan-size = omega (arith, pow-le-pow_right {n = 10} (omega arith) h.few)
-
-  pub scan-within : d < 10 → at < length s
-  scan-within p = within s at (omega arith)
-
-  -- one digit more is counted
-  scan-next : d < 10 → digits s (10 - count) at ≡ suc (digits s (10 - (count + 1)) (at + 1))
-  unfolding digits
-  scan-next p =
-      let b : digitAt s at < 10 = omega arith in
-      let e : 10 - count ≡ suc (10 - (count + 1)) = omega (arith, h.few) in
-      rw (e, lt-ltb _ _ b)
-
-  pub scan-more : (to e : ℕ) → d < 10 → (count ≡ 9 → ⊥) → to ≡ at + 1 → e ≡ digitAt s to → Scan s start to (count + 1) (value * 10 + d) e
-  unfolding worth
-  scan-more to e p q t r =
-      let g = h.small in
-      record {
-        place = omega arith;
-        few = omega arith;
-        small = simp (add-one, pow-suc) (omega arith);
-        here = r;
-        many = rw t (omega (arith, scan-next p));
-        same = h.same ∙ rw (scan-next p, t, h.here);
-      }
-
-  pub scan-count : 10 ≤ d → digits s 10 start ≡ count
-  scan-count p = omega (arith, digits-none s (10 - count) at (omega arith))
-
-  pub scan-value : 10 ≤ d → worth s 0 (digits s 10 start) start ≡ value
-  unfolding worth
-  scan-value p = h.same ∙ rw (digits-none s (10 - count) at (omega arith))
-
-  pub scan-long : d < 10 → count ≡ 9 → 9 < digits s 10 start
-  scan-long p q = omega (arith, scan-next p)
 
 -- ---- a value: at `at`, with its digits from `startAt s at` on
 
@@ -106,18 +44,18 @@ module _ (s : List ℕ) (at : ℕ) where
   unfolding goodAt goodOf
   too_long h = simp (ne_eqb (digits s 10 (startAt s at)) 0 (omega arith), lt-ltb _ _ h)
 
-  module _ {to count value d : ℕ} (h : Scan s (startAt s at) to count value d) (e : 10 ≤ d) where
+  module _ {to count value d : ℕ} (h : Scan 10 s (startAt s at) to count value d) (e : 10 ≤ d) where
     pub good-is : (negative : Bool) (first : ℕ) → negative ≡ negativeAt s at → first ≡ byte s (startAt s at) → goodAt s at ≡ goodOf negative count first
     unfolding goodAt
-    good-is negative first p q = rw (scan-count h e, p, q)
+    good-is negative first p q = rw (scan-count h (scan-ended h e), p, q)
 
     pub value-is : (negative : Bool) → negative ≡ negativeAt s at → valueAt s at ≡ signedValue negative value
     unfolding valueAt
-    value-is negative p = rw (scan-value h e, p)
+    value-is negative p = rw (scan-value h (scan-ended h e), p)
 
     pub past_is : pastAt s at ≡ to
     unfolding pastAt
-    past_is = omega (arith, scan-count h e)
+    past_is = omega (arith, h.place, scan-count h (scan-ended h e))
 
 -- the value at hand is closed where its digits are good and the byte past them closes it
 pub closed_is : (s : List ℕ) (n at to count : ℕ) (negative : Bool) (first : ℕ) → goodAt s at ≡ goodOf negative count first → pastAt s at ≡ to

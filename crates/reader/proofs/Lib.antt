@@ -1,4 +1,5 @@
 -- The root of the laws of `reader`. Assumes nothing.
+pub mod Digits
 pub mod Laws
 pub mod Names
 pub mod StormLaws

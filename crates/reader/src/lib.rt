@@ -10,7 +10,7 @@ mod traverse;
 ghost use Rattle.std.specs.Prelude.{cond, ◌&&◌, [], ◌≡◌, ◌+◌, ◌-◌, ◌*◌, ◌<◌, ◌≤◌, ◌^◌, eqb, length};
 ghost use Rattle.records.specs.Refusals.{refusal};
 ghost use Rattle.reader.specs.Text.{more as Text·more, byte, digitAt, goodOf, signedValue, startAt, closeOf};
-ghost use Rattle.reader.specs.Lines.{leaves, repeated as Lines·repeated, noneKept, keptLeft, linesAt, linesLeft, namesAt, holds as Lines·holds};
+ghost use Rattle.reader.specs.Lines.{leaves, repeated as Lines·repeated, noneKept, keptLeft, linesAt, linesLeft, spells, namesAt, holds as Lines·holds};
 ghost use Rattle.reader.specs.declared.Lines.TheVariants as lines;
 
 use records::{Kind, Refusal};
@@ -39,7 +39,7 @@ struct Kept {
 }
 
 // One more line or point, up to the greatest number there is.
-fn more(n: usize) -> usize
+pub fn more(n: usize) -> usize
     ensures { result ≡ Text·more n }
 {
     if n < 18446744073709551615 { n + 1 } else { n }
@@ -47,7 +47,7 @@ fn more(n: usize) -> usize
 
 impl Cursor {
     // The byte here, and 0 past the end.
-    fn byte(self, s: &[u8]) -> u8
+    pub fn byte(self, s: &[u8]) -> u8
         ensures { result ≡ byte s.now self.at }
     {
         let at = self.at;
@@ -55,7 +55,7 @@ impl Cursor {
     }
 
     // The digit here, and 10 where there is none.
-    fn digit(self, s: &[u8]) -> u64
+    pub fn digit(self, s: &[u8]) -> u64
         ensures { result ≡ digitAt s.now self.at }
     {
         let b = self.byte(s);
@@ -69,7 +69,7 @@ impl Cursor {
     }
 
     // Past the byte here.
-    fn past(self) -> Self
+    pub fn past(self) -> Self
         requires { self.at + 1 < 2 ^ 64 }
         ensures { result ≡ record { at = self.at + 1; line = self.line } }
     {
@@ -88,6 +88,25 @@ impl Cursor {
         } else {
             self
         }
+    }
+
+    // Whether the text has these bytes from here on.
+    pub fn spells(self, s: &[u8], want: &[u8]) -> bool
+        ensures { result ≡ spells s.now self.at want.now }
+    {
+        let mut at = self.at;
+        let mut i = 0;
+        while i < want.len() {
+            if at >= s.len() {
+                return false;
+            }
+            if s[at] != want[i] {
+                return false;
+            }
+            at += 1;
+            i += 1;
+        }
+        true
     }
 
     // In the line that begins here.
@@ -243,21 +262,14 @@ impl Cursor {
     fn names(self, s: &[u8], want: &[u8]) -> Lines
         ensures { result ≡ namesAt s.now want.now self.at self.line }
     {
-        let from = self.next_line();
-        let line = from.line;
-        let mut at = from.at;
-        let mut i = 0;
-        while i < want.len() {
-            if at >= s.len() {
-                return refused(Kind::Names, line);
-            }
-            if s[at] != want[i] {
-                return refused(Kind::Names, line);
-            }
-            at += 1;
-            i += 1;
+        let line = more(self.line);
+        if !self.spells(s, want) {
+            return refused(Kind::Names, line);
         }
-        Lines::Read(Cursor { at, line })
+        Lines::Read(Cursor {
+            at: self.at + want.len(),
+            line,
+        })
     }
 }
 

@@ -84,7 +84,7 @@ impl Row {
 }
 
 // What is refused, by number. Checks 1 to 12 are document 01's: 1 to 4 those of a file's text, 5 to 7 of a traverse, 8 and 9 of a record,
-// 10 to 12 of the march. 13 and 14 are document 02's, of what a storm record is made from.
+// 10 to 12 of the march. The others are document 02's: 13 and 14 of what a storm record is made from, 15 to 17 of a card deck.
 #[derive(Clone, Copy)]
 pub enum Kind {
     Names,
@@ -101,6 +101,9 @@ pub enum Kind {
     Setup,
     StormValue,
     WindRadii,
+    CardOrder,
+    CardUnit,
+    CardCounts,
 }
 
 impl Kind {
@@ -123,6 +126,9 @@ impl Kind {
             Kind::Setup => 12,
             Kind::StormValue => 13,
             Kind::WindRadii => 14,
+            Kind::CardOrder => 15,
+            Kind::CardUnit => 16,
+            Kind::CardCounts => 17,
         }
     }
 }

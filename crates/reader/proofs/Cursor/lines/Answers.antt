@@ -11,7 +11,8 @@ use Rattle.reader.specs.declared.Cursor.{Cursor}
 use Rattle.reader.specs.declared.Kept.{Kept}
 use Rattle.reader.specs.declared.Lines.{Lines}
 use Rattle.reader.specs.declared.Lines.TheVariants.{Refused}
-use Rattle.reader.proofs.Laws.{Scan, scan-none, scan-size, scan-within, scan-more, scan-long, too_long, good-is, value-is, past_is, closed_is, closed-present, Keeping, keeping_none, keeping-on, numberPlace, place-line, KeepsOne, keeps-one, keep-room, values-bad, values-more, values-done, lines-done, lines-ended, lines-bad, lines-differ, lines_more, left_is}
+use Rattle.reader.proofs.Digits.{Scan, scan-none, scan-size, scan-within, scan-more, scan-long}
+use Rattle.reader.proofs.Laws.{too_long, good-is, value-is, past_is, closed_is, closed-present, Keeping, keeping_none, keeping-on, numberPlace, place-line, KeepsOne, keeps-one, keep-room, values-bad, values-more, values-done, lines-done, lines-ended, lines-bad, lines-differ, lines_more, left_is}
 use Rattle.reader.proofs.Cursor.lines.Goals as goal
 
 at_of : {x y : Cursor} → x ≡ y → x.at ≡ y.at
@@ -27,9 +28,9 @@ same_of : {x y : Kept} → x ≡ y → x.same ≡ y.same
 same_of e = ap (λ (x : Kept). x.same) e
 
 -- the value at hand, once its digits are read
-module _ {s : List ℕ} {from to count value d b first : ℕ} (at : ℕ) (h : Scan s from to count value d) (e : from ≡ startAt s at) (p : 10 ≤ d)
+module _ {s : List ℕ} {from to count value d b first : ℕ} (at : ℕ) (h : Scan 10 s from to count value d) (e : from ≡ startAt s at) (p : 10 ≤ d)
     (q : b ≡ byte s at) (f : first ≡ byte s from) where
-  scan : Scan s (startAt s at) to count value d
+  scan : Scan 10 s (startAt s at) to count value d
   scan = rw e at h
 
   pasts : pastAt s at ≡ to
@@ -44,10 +45,10 @@ module _ {s : List ℕ} {from to count value d b first : ℕ} (at : ℕ) (h : Sc
       closed_is s n at to count (eqb b 45) first (good-is s at scan p (eqb b 45) first (ap (λ (x : ℕ). eqb x 45) q) (f ∙ ap (byte s) e)) pasts ∙ sym g
 
 -- with more than nine digits it is not
-long : {s : List ℕ} {from to count value d : ℕ} (n at : ℕ) → Scan s from to count value d → from ≡ startAt s at → d < 10 → count ≡ 9 → closedAt s n at ≡ false
+long : {s : List ℕ} {from to count value d : ℕ} (n at : ℕ) → Scan 10 s from to count value d → from ≡ startAt s at → d < 10 → count ≡ 9 → closedAt s n at ≡ false
 long {s} {from} {to} {count} {value} {d} n at h e p q =
-    let g : Scan s (startAt s at) to count value d = rw e at h in
-    rw (too_long s at (scan-long g p q))
+    let g : Scan 10 s (startAt s at) to count value d = rw e at h in
+    rw (too_long s at (omega (arith, scan-long g p (omega arith))))
 
 to-come : (n k : ℕ) → k < n → n - k ≡ suc (n - (k + 1))
 to-come n k h = omega arith
@@ -104,16 +105,16 @@ loop-k-init c = record {
 }
 
 pub loop-d-init : goal.loop-d-init
-loop-d-init c = record { scan = scan-none _ _ _ c.digit-d.ensures; line = refl }
+loop-d-init c = record { scan = scan-none 10 _ _ _ c.digit-d.ensures; few = omega arith; line = refl }
 
 pub overflow_mul-value : goal.overflow_mul-value
-overflow_mul-value c = record { fits = omega (arith, scan-size c.loop-d.invariant.scan) }
+overflow_mul-value c = record { fits = omega (arith, scan-size c.loop-d.invariant.scan 9 c.loop-d.invariant.few) }
 
 pub overflow_add-value : goal.overflow_add-value
-overflow_add-value c = record { fits = omega (arith, scan-size c.loop-d.invariant.scan) }
+overflow_add-value c = record { fits = omega (arith, scan-size c.loop-d.invariant.scan 9 c.loop-d.invariant.few) }
 
 pub overflow_add-count : goal.overflow_add-count
-overflow_add-count c = record { fits = omega (arith, c.loop-d.invariant.scan.few) }
+overflow_add-count c = record { fits = omega (arith, c.loop-d.invariant.few) }
 
 pub past-c-requires : goal.past-c-requires
 past-c-requires c = omega (arith, scan-within c.loop-d.invariant.scan c.loop-d-test.true)
@@ -123,12 +124,13 @@ loop-d-smaller c = omega (arith, scan-within c.loop-d.invariant.scan c.loop-d-te
 
 pub loop-d-preserved : goal.loop-d-preserved
 loop-d-preserved c = record {
-  scan = scan-more c.loop-d.invariant.scan _ _ c.loop-d-test.true c.if-count-eq9.false (at_of c.past-c.ensures) c.digit-d-in-loop-d.ensures;
+  scan = scan-more c.loop-d.invariant.scan _ _ c.loop-d-test.true (omega (arith, c.loop-d.invariant.few)) (at_of c.past-c.ensures) c.digit-d-in-loop-d.ensures;
+  few = omega (arith, c.loop-d.invariant.few, c.if-count-eq9.false);
   line = lineOf c.past-c.ensures ∙ c.loop-d.invariant.line;
 }
 
 pub closes-requires : goal.closes-requires
-closes-requires c = c.loop-d.invariant.scan.few
+closes-requires c = c.loop-d.invariant.few
 
 pub past-c-requires-in-loop-k : goal.past-c-requires-in-loop-k
 past-c-requires-in-loop-k c =
@@ -139,7 +141,7 @@ past-c-requires-in-loop-k c =
     omega arith
 
 pub signed-requires : goal.signed-requires
-signed-requires c = omega (arith, scan-size c.loop-d.invariant.scan)
+signed-requires c = omega (arith, scan-size c.loop-d.invariant.scan 9 c.loop-d.invariant.few)
 
 pub keep-kept-requires : goal.keep-kept-requires
 keep-kept-requires c =

@@ -3,12 +3,14 @@
 -- before the next place are those that were kept. Assumes nothing.
 use Rattle.std.proofs.Common.{◌≡◌, ◌-◌, ◌≤◌, true, [], length, take}
 use Rattle.reader.specs.Lines.{valuesAt, linesAt}
-use Rattle.reader.proofs.Laws.{Scan, Keeping, numberPlace}
+use Rattle.reader.proofs.Digits.{Scan}
+use Rattle.reader.proofs.Laws.{Keeping, numberPlace}
 use Rattle.reader.proofs.Cursor.lines.Given as goal
 
 abbrev pub invariant-loop-d : goal.invariant-loop-d
 invariant-loop-d l = record {
-  scan : Scan l.s l.initial.c.at l.c.at l.count l.value l.d;
+  scan : Scan 10 l.s l.initial.c.at l.c.at l.count l.value l.d;
+  few : l.count ≤ 9;
   line : l.c.line ≡ l.initial.c.line;
 }
 

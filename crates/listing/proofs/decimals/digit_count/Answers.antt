@@ -1,8 +1,8 @@
--- `digit_count` meets its contract. Assumes nothing.
+-- `decimals::digit_count` meets its contract. Assumes nothing.
 use Rattle.std.proofs.Common.{◌≡◌, length, arith}
 use Rattle.listing.specs.Decimal.{decimalOf}
 use Rattle.listing.proofs.Decimal.{counted_none, counted-more, counted-all, length_most}
-use Rattle.listing.proofs.digit_count.Goals as goal
+use Rattle.listing.proofs.decimals.digit_count.Goals as goal
 
 pub loop-power-init : goal.loop-power-init
 loop-power-init c = record { few = omega arith; some = omega arith; known = counted_none c.args.n }

@@ -1,7 +1,7 @@
--- What is left of the names is spelt from here where the whole is spelt from the cursor. Assumes nothing.
+-- What is left of the bytes is spelt from here where the whole is spelt from the cursor. Assumes nothing.
 use Rattle.std.proofs.Common.{◌≡◌, ◌+◌, ◌-◌, ◌≤◌, length, drop}
 use Rattle.reader.specs.Lines.{spells}
-use Rattle.reader.proofs.Cursor.names.Given as goal
+use Rattle.reader.proofs.Cursor.spells.Given as goal
 
 abbrev pub invariant-loop-i : goal.invariant-loop-i
 invariant-loop-i l = record {

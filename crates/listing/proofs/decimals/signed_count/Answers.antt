@@ -1,9 +1,9 @@
--- `signed_count` meets its contract. Assumes nothing.
+-- `decimals::signed_count` meets its contract. Assumes nothing.
 use Rattle.std.proofs.Common.{◌≡◌, ℕ, ap, ◌∙◌, arith, suc, length, nat_abs}
 use mir.Facts.{to_z-of_z}
 use Rattle.listing.specs.Decimal.{decimalOf, signedText}
 use Rattle.listing.proofs.Signed.{below, above}
-use Rattle.listing.proofs.signed_count.Goals as goal
+use Rattle.listing.proofs.decimals.signed_count.Goals as goal
 
 pub returns-then-x-lt0 : goal.returns-then-x-lt0
 returns-then-x-lt0 c =

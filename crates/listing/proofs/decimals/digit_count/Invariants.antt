@@ -1,7 +1,7 @@
--- `digit_count`: n has `count` digits behind the first digits of n / power.
+-- `decimals::digit_count`: n has `count` digits behind the first digits of n / power.
 use Rattle.std.proofs.Common.{◌+◌, ◌-◌, ◌<◌, ◌≤◌}
 use Rattle.listing.proofs.Decimal.{Counted}
-use Rattle.listing.proofs.digit_count.Given as goal
+use Rattle.listing.proofs.decimals.digit_count.Given as goal
 
 abbrev pub invariant-loop-power : goal.invariant-loop-power
 invariant-loop-power l = record { few : l.count ≤ l.power; some : 0 < l.power; known : Counted l.n l.power l.count }

@@ -1,7 +1,7 @@
--- `write_bytes` meets its contract. Assumes nothing.
+-- `decimals::write_bytes` meets its contract. Assumes nothing.
 use Rattle.std.proofs.Common.{arith}
 use Rattle.listing.proofs.Written.{copied_none, copied_more, copied_all}
-use Rattle.listing.proofs.write_bytes.Goals as goal
+use Rattle.listing.proofs.decimals.write_bytes.Goals as goal
 
 pub loop-i-init : goal.loop-i-init
 loop-i-init c = copied_none _ _ _

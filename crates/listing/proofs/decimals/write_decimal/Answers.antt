@@ -1,7 +1,7 @@
--- `write_decimal` meets its contract. Assumes nothing.
+-- `decimals::write_decimal` meets its contract. Assumes nothing.
 use Rattle.std.proofs.Common.{arith}
 use Rattle.listing.proofs.Stored.{left-all, left-first, left-more, left-none}
-use Rattle.listing.proofs.write_decimal.Goals as goal
+use Rattle.listing.proofs.decimals.write_decimal.Goals as goal
 
 pub loop-rest-init : goal.loop-rest-init
 loop-rest-init c = left-all _ _ _ _ (omega arith) (omega arith)

@@ -1,4 +1,4 @@
--- `write_signed` meets its contract. Assumes nothing.
+-- `decimals::write_signed` meets its contract. Assumes nothing.
 use Rattle.std.proofs.Common.{◌≡◌, ℕ, ◌+◌, ◌≤◌, [], ◌∷◌, ◌++◌, sym, ap, ◌∙◌, arith, suc, length, length-set, length-append}
 use mir.Facts.{to_z-of_z}
 use mir.Syntax.{w64}
@@ -9,7 +9,7 @@ use mathlib.Core.Bool.{true, false}
 use Rattle.listing.specs.Decimal.{decimalOf, signedText}
 use Rattle.listing.proofs.Signed.{below, above}
 use Rattle.listing.proofs.Written.{wrote_after}
-use Rattle.listing.proofs.write_signed.Goals as goal
+use Rattle.listing.proofs.decimals.write_signed.Goals as goal
 
 -- how x is spelt with the size that the code found
 minus : (x : ℤ) (size : ℕ) → SFits w64 x → lt_z x (pos 0) ≡ true → size ≡ nat_abs x → signedText x ≡ 45 ∷ decimalOf size

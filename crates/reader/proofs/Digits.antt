@@ -1,0 +1,81 @@
+-- Of a run of digits: what one digit more does to how many there are and to what they are worth. Assumes nothing.
+use mathlib.Core.Path.{◌≡◌, refl, ◌∙◌}
+use mathlib.Core.List.{List, [], ◌∷◌}
+use Prim.Native.Nat.{ℕ, zero, suc, ◌+◌, ◌-◌, ◌*◌, ◌<◌, ◌≤◌, ◌^◌}
+use native.Mathlib.Omega.{arith}
+use native.Mathlib.Numerals.{add-one}
+use native.Mathlib.Nat.{pow-suc, pow-le-pow_right, sub-zero}
+use lib.ListN.{length}
+use borrow.Author.Tests.{lt-ltb, le-ltb}
+use Rattle.reader.specs.Text.{digitAt, digits, worth}
+
+-- a digit stands within the text
+pub within : (s : List ℕ) (i : ℕ) → digitAt s i < 10 → i < length s
+unfolding digitAt
+within [] i h = omega arith
+within (x ∷ s) zero h = omega arith
+within (x ∷ s) (suc i) h = let r = within s i h in omega arith
+
+pub digits-none : (s : List ℕ) (n at : ℕ) → 10 ≤ digitAt s at → digits s n at ≡ 0
+unfolding digits
+digits-none s zero at h = refl
+digits-none s (suc n) at h = simp (le-ltb _ _ h)
+
+-- what holds while digits are read, `most` of them at most: `count` of them from `start` on, worth `value`, and `d` is the next
+pub record Scan (most : ℕ) (s : List ℕ) (start at count value d : ℕ) : Type 0 where
+  pub place : at ≡ start + count
+  pub few : count ≤ most
+  pub small : value < 10 ^ count
+  pub here : d ≡ digitAt s at
+  pub many : digits s most start ≡ count + digits s (most - count) at
+  pub same : worth s 0 (digits s most start) start ≡ worth s value (digits s (most - count) at) at
+
+pub scan-none : (most : ℕ) (s : List ℕ) (start d : ℕ) → d ≡ digitAt s start → Scan most s start start 0 0 d
+scan-none most s start d e = record { place = omega arith; few = omega arith; small = omega arith; here = e; many = rw sub-zero (omega arith); same = rw sub-zero }
+
+module _ {most : ℕ} {s : List ℕ} {start at count value d : ℕ} (h : Scan most s start at count value d) where
+  pub scan-size : (k : ℕ) → count ≤ k → value < 10 ^ k
+  scan-size k p = omega (arith, h.small, pow-le-pow_right {n = 10} (omega arith) p)
+
+  pub scan-within : d < 10 → at < length s
+  scan-within p = within s at (omega (arith, h.here))
+
+  -- one digit more is counted
+  scan-next : d < 10 → count < most → digits s (most - count) at ≡ suc (digits s (most - (count + 1)) (at + 1))
+  unfolding digits
+  scan-next p q =
+      let b : digitAt s at < 10 = omega (arith, h.here) in
+      let e : most - count ≡ suc (most - (count + 1)) = omega arith in
+      rw (e, lt-ltb _ _ b)
+
+  pub scan-more : (to e : ℕ) → d < 10 → count < most → to ≡ at + 1 → e ≡ digitAt s to → Scan most s start to (count + 1) (value * 10 + d) e
+  unfolding worth
+  scan-more to e p q t r =
+      let g = h.small in
+      record {
+        place = omega (arith, h.place);
+        few = omega arith;
+        small = simp (add-one, pow-suc) (omega arith);
+        here = r;
+        many = rw t (omega (arith, h.many, scan-next p q));
+        same = h.same ∙ rw (scan-next p q, t, h.here);
+      }
+
+  -- no digit more is there, or is counted
+  pub scan-ended : 10 ≤ d → digits s (most - count) at ≡ 0
+  scan-ended p = digits-none s (most - count) at (omega (arith, h.here))
+
+  pub scan-full : count ≡ most → digits s (most - count) at ≡ 0
+  unfolding digits
+  scan-full p = let e : most - count ≡ 0 = omega arith in rw e
+
+  module _ (z : digits s (most - count) at ≡ 0) where
+    pub scan-count : digits s most start ≡ count
+    scan-count = omega (arith, h.many, z)
+
+    pub scan-value : worth s 0 (digits s most start) start ≡ value
+    unfolding worth
+    scan-value = h.same ∙ rw z
+
+  pub scan-long : d < 10 → count < most → count < digits s most start
+  scan-long p q = omega (arith, h.many, scan-next p q)
