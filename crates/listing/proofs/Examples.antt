@@ -4,7 +4,7 @@ use mathlib.Core.Path.{◌≡◌, refl}
 use mathlib.Core.List.{[], ◌∷◌}
 use lib.IntN.{pos, negsuc}
 use Rattle.listing.specs.Decimal.{digitsOf, decimalOf, signedText}
-use Rattle.listing.specs.Lines.{recordLine, refusedLine}
+use Rattle.listing.specs.Lines.{valuesLine, recordLine, refusedLine}
 
 pub zero-digit : decimalOf 0 ≡ 48 ∷ []
 unfolding decimalOf digitsOf
@@ -41,12 +41,12 @@ least = refl
 -- document 01's listing: `0 2325 2326` and `1600 7302 7303`
 pub first-record : recordLine (pos 0) (pos 2325) (pos 2326)
     ≡ 48 ∷ 32 ∷ 50 ∷ 51 ∷ 50 ∷ 53 ∷ 32 ∷ 50 ∷ 51 ∷ 50 ∷ 54 ∷ 10 ∷ []
-unfolding recordLine signedText decimalOf digitsOf
+unfolding valuesLine signedText decimalOf digitsOf
 first-record = refl
 
 pub second-record : recordLine (pos 1600) (pos 7302) (pos 7303)
     ≡ 49 ∷ 54 ∷ 48 ∷ 48 ∷ 32 ∷ 55 ∷ 51 ∷ 48 ∷ 50 ∷ 32 ∷ 55 ∷ 51 ∷ 48 ∷ 51 ∷ 10 ∷ []
-unfolding recordLine signedText decimalOf digitsOf
+unfolding valuesLine signedText decimalOf digitsOf
 second-record = refl
 
 -- `refused 12 3`

@@ -8,7 +8,7 @@ use lib.IntN.{ℤ, pos, negsuc}
 use mir.Syntax.{w64}
 use mir.Val.{SFits}
 use Rattle.listing.specs.Decimal.{decimalOf, signedText}
-use Rattle.listing.specs.Lines.{space, feed, recordLine, refusedWord, refusedLine}
+use Rattle.listing.specs.Lines.{space, feed, valuesLine, recordLine, refusedWord, refusedLine}
 use Rattle.listing.specs.Put.{Wrote}
 use Rattle.listing.proofs.Decimal.{length_most}
 use Rattle.listing.proofs.Written.{wrote_on}
@@ -20,15 +20,15 @@ module _ {xs ys zs line : List ℕ} (whole : xs ++ ys ++ zs ≡ line) {at : ℕ}
       let n : length line ≡ length xs + length ys + length zs = sym (ap length whole) ∙ simp length-append in
       subst (λ (l : List ℕ). Wrote l at s c v) whole (wrote_on (wrote_on p q (omega arith)) r (omega (arith, length-append xs ys)))
 
-pub record-length : (elapsed low high : ℤ)
-    → length (recordLine elapsed low high) ≡ length (signedText elapsed) + length (signedText low) + length (signedText high) + 3
-unfolding recordLine
-record-length elapsed low high = simp length-append (omega arith)
+pub values-length : (a b c : ℤ)
+    → length (valuesLine a b c) ≡ length (signedText a) + length (signedText b) + length (signedText c) + 3
+unfolding valuesLine
+values-length a b c = simp length-append (omega arith)
 
-pub record-parts : (elapsed low high : ℤ)
-    → (signedText elapsed ++ space) ++ (signedText low ++ space) ++ (signedText high ++ feed) ≡ recordLine elapsed low high
-unfolding recordLine
-record-parts elapsed low high = simp append_assoc
+pub values-parts : (a b c : ℤ)
+    → (signedText a ++ space) ++ (signedText b ++ space) ++ (signedText c ++ feed) ≡ valuesLine a b c
+unfolding valuesLine
+values-parts a b c = simp append_assoc
 
 pub refused-length : (number place : ℕ) → length (refusedLine number place) ≡ 8 + length (decimalOf number) + length (decimalOf place) + 2
 unfolding refusedLine
@@ -48,7 +48,7 @@ signed-most (negsuc n) f = let s = f.sfits in let l = length_most 18 (suc n) (om
 
 pub record-most : (elapsed low high : ℤ) → SFits w64 elapsed → SFits w64 low → SFits w64 high → length (recordLine elapsed low high) ≤ 63
 record-most elapsed low high e l h =
-    omega (arith, record-length elapsed low high, signed-most elapsed e, signed-most low l, signed-most high h)
+    omega (arith, values-length elapsed low high, signed-most elapsed e, signed-most low l, signed-most high h)
 
 pub refused-most : (number place : ℕ) → number < 2 ^ 64 → place < 2 ^ 64 → length (refusedLine number place) ≤ 50
 refused-most number place n p =

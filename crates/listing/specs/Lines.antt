@@ -13,9 +13,13 @@ feed = 10 ∷ []
 abbrev pub namesLine : List ℕ
 namesLine = 115 ∷ 101 ∷ 99 ∷ 111 ∷ 110 ∷ 100 ∷ 115 ∷ 32 ∷ 108 ∷ 111 ∷ 119 ∷ 32 ∷ 104 ∷ 105 ∷ 103 ∷ 104 ∷ 10 ∷ []
 
+-- a line of three values
+unfoldable pub valuesLine : ℤ → ℤ → ℤ → List ℕ
+valuesLine a b c = signedText a ++ space ++ signedText b ++ space ++ signedText c ++ feed
+
 -- an accepted record: elapsed seconds, and the low and the high end of the shore height
-unfoldable pub recordLine : ℤ → ℤ → ℤ → List ℕ
-recordLine elapsed low high = signedText elapsed ++ space ++ signedText low ++ space ++ signedText high ++ feed
+abbrev pub recordLine : ℤ → ℤ → ℤ → List ℕ
+recordLine elapsed low high = valuesLine elapsed low high
 
 -- `refused` and a space
 abbrev pub refusedWord : List ℕ

@@ -2,6 +2,7 @@
 // answers the place behind what it wrote; the counts and `has_room` tell the room beforehand.
 ghost use Rattle.std.specs.Prelude.{◌≡◌, [], ◌∷◌, ◌++◌, ◌+◌, ◌<◌, ◌≤◌, length, leb, nat_abs};
 ghost use Rattle.listing.specs.Decimal.{decimalOf, signedText};
+ghost use Rattle.listing.specs.Lines.{valuesLine};
 ghost use Rattle.listing.specs.Put.{Wrote};
 
 // Whether a buffer of this size has room for so many bytes from `at` on, wherever `at` is.
@@ -95,4 +96,21 @@ pub fn write_signed(out: &mut [u8], at: usize, x: i64, close: u8) -> usize
         return write_decimal(out, at + 1, size, close);
     }
     write_decimal(out, at, size, close)
+}
+
+// How many bytes a line of three values takes, each with the byte that closes it.
+pub fn values_count(a: i64, b: i64, c: i64) -> usize
+    ensures { result ≡ length (valuesLine a b c) }
+{
+    signed_count(a) + signed_count(b) + signed_count(c) + 3
+}
+
+// A line of three values.
+pub fn write_values(out: &mut [u8], at: usize, a: i64, b: i64, c: i64) -> usize
+    requires { at + length (valuesLine a b c) ≤ length out.old }
+    ensures { Wrote (valuesLine a b c) at out.old result out.new }
+{
+    let second = write_signed(out, at, a, b' ');
+    let third = write_signed(out, second, b, b' ');
+    write_signed(out, third, c, b'\n')
 }

@@ -12,7 +12,7 @@ ghost use Rattle.listing.specs.Lines.{namesLine, recordLine, refusedLine, failed
 ghost use Rattle.listing.specs.Put.{afterPut, putOf, Wrote};
 
 use crate::decimals::{
-    digit_count, has_room, signed_count, write_bytes, write_decimal, write_signed,
+    digit_count, has_room, values_count, write_bytes, write_decimal, write_values,
 };
 
 // The place behind a line that was put, or that the line does not fit.
@@ -20,22 +20,6 @@ use crate::decimals::{
 pub enum Put {
     Next(usize),
     Full,
-}
-
-// How many bytes the line of a record takes: three values, each with the byte that closes it.
-fn record_count(elapsed: i64, low: i64, high: i64) -> usize
-    ensures { result ≡ length (recordLine elapsed low high) }
-{
-    signed_count(elapsed) + signed_count(low) + signed_count(high) + 3
-}
-
-fn write_record(out: &mut [u8], at: usize, elapsed: i64, low: i64, high: i64) -> usize
-    requires { at + length (recordLine elapsed low high) ≤ length out.old }
-    ensures { Wrote (recordLine elapsed low high) at out.old result out.new }
-{
-    let second = write_signed(out, at, elapsed, b' ');
-    let third = write_signed(out, second, low, b' ');
-    write_signed(out, third, high, b'\n')
 }
 
 // How many bytes the line of a refusal takes: the word and its space, then two numbers.
@@ -68,11 +52,11 @@ pub fn put_names(out: &mut [u8], at: usize) -> Put
 pub fn put_record(out: &mut [u8], at: usize, elapsed: i64, low: i64, high: i64) -> Put
     ensures { afterPut result out.new ≡ putOf (recordLine elapsed low high) at out.old }
 {
-    let count = record_count(elapsed, low, high);
+    let count = values_count(elapsed, low, high);
     if !has_room(out.len(), at, count) {
         return Put::Full;
     }
-    Put::Next(write_record(out, at, elapsed, low, high))
+    Put::Next(write_values(out, at, elapsed, low, high))
 }
 
 // The last line where the input is refused: the refusal's number and its place.
