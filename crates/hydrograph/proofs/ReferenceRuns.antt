@@ -31,7 +31,7 @@ use Rattle.march.specs.Checks.{spacingOk, traverseCheck, openOf, placesOk, lentC
 use Rattle.march.specs.March.{marchBy, segmentAt}
 use Rattle.march.specs.Take.{takeOf}
 use Rattle.listing.specs.Decimal.{digitsOf, decimalOf, signedText}
-use Rattle.listing.specs.Lines.{recordLine, refusedLine}
+use Rattle.listing.specs.Lines.{valuesLine, refusedLine}
 use Rattle.reader.specs.Text.{more, digitAt, digits, worth, goodOf, signedValue, startAt, goodAt, valueAt, pastAt, closeOf}
 use Rattle.reader.specs.Lines.{repeated, keptWith, sameWith, valuesAt, linesAt, spells, namesAt}
 use Rattle.reader.specs.Storm.{stormStart, recordOf, nextAt, recordsBy, stormRest, stormOf}
@@ -238,7 +238,7 @@ ourRuns =
 -- ---- the facts
 
 all_runs : Agree referenceRuns × Agree ourRuns
-unfolding ◌/F◌ lesser greater nearest quotientLow quotientHigh dampedLeast dampedMost dampedLow dampedHigh dampedFloor dampedCeil scaledSine sineEntry sineOf cosineOf stressOf crossOf onshoreOf forceOf wholes stationAt putStation pointAt rowAt groups flat inside rangeInside countOk headOk stationOk secondsOk pointOk rowOk depthOf fluxOf gainOf nextSetup segmentOf shoreBase firstBad spacingOk traverseCheck openOf placesOk lentCheck timesOk recordCheck checksOf marchBy segmentAt takeOf digitsOf decimalOf signedText recordLine refusedLine more digitAt digits worth goodOf signedValue startAt goodAt valueAt pastAt closeOf repeated keptWith sameWith valuesAt linesAt spells namesAt stormStart recordOf nextAt recordsBy stormRest stormOf start withValues storedAt withPoint lineAt countedBy endAt restBy restAt traverseOf hydrographLines listingOf
+unfolding ◌/F◌ lesser greater nearest quotientLow quotientHigh dampedLeast dampedMost dampedLow dampedHigh dampedFloor dampedCeil scaledSine sineEntry sineOf cosineOf stressOf crossOf onshoreOf forceOf wholes stationAt putStation pointAt rowAt groups flat inside rangeInside countOk headOk stationOk secondsOk pointOk rowOk depthOf fluxOf gainOf nextSetup segmentOf shoreBase firstBad spacingOk traverseCheck openOf placesOk lentCheck timesOk recordCheck checksOf marchBy segmentAt takeOf digitsOf decimalOf signedText valuesLine refusedLine more digitAt digits worth goodOf signedValue startAt goodAt valueAt pastAt closeOf repeated keptWith sameWith valuesAt linesAt spells namesAt stormStart recordOf nextAt recordsBy stormRest stormOf start withValues storedAt withPoint lineAt countedBy endAt restBy restAt traverseOf hydrographLines listingOf
 all_runs = (refl, refl)
 
 -- the paper's table

@@ -25,7 +25,7 @@ digits_last [] b h k = (k, tt)
 digits_last (a ∷ bs) b h k = (h.0, digits_last bs b h.1 k)
 
 -- a number that is not zero does not begin with `0`
-first_some : (b : ℕ) (bs : List ℕ) → NoLeadingZero (b ∷ bs) → 0 < worth (b ∷ bs) → b ≡ 48 → ⊥
+pub first_some : (b : ℕ) (bs : List ℕ) → NoLeadingZero (b ∷ bs) → 0 < worth (b ∷ bs) → b ≡ 48 → ⊥
 unfolding worthAfter
 first_some b bs h k e =
     let z : worth (b ∷ bs) ≡ 0 = rw (h e, e) in

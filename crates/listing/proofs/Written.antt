@@ -1,10 +1,10 @@
 -- Laws of `written`: what stores and calls one behind the other write together. Assumes nothing.
 use mathlib.Core.Path.{◌≡◌, refl, sym, ap, ◌∙◌}
-use mathlib.Core.List.{List, [], ◌∷◌, ◌++◌, append_assoc}
+use mathlib.Core.List.{List, [], ◌∷◌, ◌++◌, append_assoc, append-nil}
 use Prim.Native.Nat.{ℕ, suc, ◌+◌, ◌<◌, ◌≤◌}
 use native.Mathlib.Omega.{arith}
 use native.Mathlib.Numerals.{add-one}
-use lib.ListN.{length, take, drop, set, get_or, length-append}
+use lib.ListN.{length, take, drop, set, get_or, length-append, take-append-drop}
 use lib.Seq.{sets, sets-eq, length-sets, lt-length-set, take-set-le, drop-set-lt, drop-cons, get_or-set_same, append_snoc, take-length, paste, paste-zero, paste-suc, length-paste}
 use Rattle.listing.specs.Put.{written, Wrote}
 
@@ -21,6 +21,11 @@ stores-on [] ys at s = let e : at + 0 ≡ at = omega arith in rw e
 stores-on (x ∷ xs) ys at s =
     let e : at + suc (length xs) ≡ suc at + length xs = omega arith in
     rw e (stores-on xs ys (suc at) (set s at x))
+
+-- no bytes
+pub written_none : (at : ℕ) (s : List ℕ) → written [] at s ≡ s
+unfolding written
+written_none at s = let e : at + 0 ≡ at = omega arith in rw (e, append-nil) (take-append-drop at s)
 
 -- bytes behind bytes
 pub written_on : (xs ys : List ℕ) (at : ℕ) (s : List ℕ) → at + length xs + length ys ≤ length s

@@ -1,12 +1,14 @@
--- Of a run of digits: what one digit more does to how many there are and to what they are worth. Assumes nothing.
+-- Of a run of digits: how many there are, what they are worth, and what one digit more does to both. Assumes nothing.
 use mathlib.Core.Path.{◌≡◌, refl, ◌∙◌}
+use mathlib.Core.Bool.{Bool, true, false}
 use mathlib.Core.List.{List, [], ◌∷◌}
 use Prim.Native.Nat.{ℕ, zero, suc, ◌+◌, ◌-◌, ◌*◌, ◌<◌, ◌≤◌, ◌^◌}
 use native.Mathlib.Omega.{arith}
 use native.Mathlib.Numerals.{add-one}
-use native.Mathlib.Nat.{pow-suc, pow-le-pow_right, sub-zero}
+use native.Mathlib.Nat.{pow-suc, pow-le-pow_right, mul-le-mul_right, sub-zero}
 use lib.ListN.{length}
-use borrow.Author.Tests.{lt-ltb, le-ltb}
+use lib.Dec.{ltb}
+use borrow.Author.Tests.{lt-ltb, le-ltb, ltb-true}
 use Rattle.reader.specs.Text.{digitAt, digits, worth}
 
 -- a digit stands within the text
@@ -20,6 +22,44 @@ pub digits-none : (s : List ℕ) (n at : ℕ) → 10 ≤ digitAt s at → digits
 unfolding digits
 digits-none s zero at h = refl
 digits-none s (suc n) at h = simp (le-ltb _ _ h)
+
+-- ---- how many, and what they are worth
+
+-- what is known of them by whether a digit stands first
+by_digit : {P : Type 0} (s : List ℕ) (n at : ℕ) → (digitAt s at < 10 → digits s (suc n) at ≡ suc (digits s n (at + 1)) → P) → (digits s (suc n) at ≡ 0 → P) → P
+unfolding digits
+by_digit {P} s n at f g = by (ltb (digitAt s at) 10) refl
+  where
+    by : (t : Bool) → ltb (digitAt s at) 10 ≡ t → P
+    by true e = f (ltb-true _ _ e) (rw e)
+    by false e = g (rw e)
+
+pub digits-most : (s : List ℕ) (n at : ℕ) → digits s n at ≤ n
+unfolding digits
+digits-most s zero at = omega arith
+digits-most s (suc n) at = by_digit s n at (λ d e. let r = digits-most s n (at + 1) in omega arith) (λ e. omega arith)
+
+pub digits-within : (s : List ℕ) (n at : ℕ) → at ≤ length s → at + digits s n at ≤ length s
+unfolding digits
+digits-within s zero at h = omega arith
+digits-within s (suc n) at h =
+    by_digit s n at
+    (λ d e. let w = within s at d in let r = digits-within s n (at + 1) (omega arith) in omega arith)
+    (λ e. omega arith)
+
+pub digits-worth : (s : List ℕ) (n v at : ℕ) → worth s v (digits s n at) at < suc v * 10 ^ digits s n at
+unfolding digits worth
+digits-worth s zero v at = omega arith
+digits-worth s (suc n) v at =
+    by_digit s n at
+    (λ d e.
+    let w : ℕ = v * 10 + digitAt s at in
+    let r = digits-worth s n w (at + 1) in
+    let m : suc w * 10 ^ digits s n (at + 1) ≤ suc v * 10 * 10 ^ digits s n (at + 1) = mul-le-mul_right (10 ^ digits s n (at + 1)) (omega arith) in
+    rw (e, pow-suc) (omega arith))
+    (λ e. rw e (omega arith))
+
+-- ---- digit by digit
 
 -- what holds while digits are read, `most` of them at most: `count` of them from `start` on, worth `value`, and `d` is the next
 pub record Scan (most : ℕ) (s : List ℕ) (start at count value d : ℕ) : Type 0 where

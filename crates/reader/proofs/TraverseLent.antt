@@ -35,7 +35,7 @@ use Rattle.reader.proofs.StormLaws.{counts-in}
 
 -- ---- as many numbers as were lent
 
-stored-size : (l : List ℤ) (i : ℕ) (x : Station) → length (storedAt l i x) ≡ length l
+pub stored-size : (l : List ℤ) (i : ℕ) (x : Station) → length (storedAt l i x) ≡ length l
 unfolding storedAt putStation
 stored-size l i x = go (ltb i (stationCount l))
   where
@@ -170,7 +170,7 @@ stored-before l i x n h = go (ltb i (stationCount l))
     go false = refl
 
 -- and where it is the last of them, it follows those before it
-stored-at : (l : List ℤ) (i : ℕ) (x : Station) → i < stationCount l → take (2 * (i + 1)) (storedAt l i x) ≡ take (2 * i) l ++ ofStation x
+pub stored-at : (l : List ℤ) (i : ℕ) (x : Station) → i < stationCount l → take (2 * (i + 1)) (storedAt l i x) ≡ take (2 * i) l ++ ofStation x
 unfolding storedAt putStation
 stored-at l i x h =
     let e : 2 * (i + 1) ≡ 2 * i + 2 = omega arith in
