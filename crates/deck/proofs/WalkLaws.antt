@@ -1,0 +1,326 @@
+-- Two cursors that go over a sound deck meet just its distances and its depths; and there are no more of them than bytes, each of nine digits at
+-- most. Assumes nothing.
+use mathlib.Core.Path.{◌≡◌, refl, sym, ap, subst, ◌∙◌}
+use mathlib.Core.Bool.{Bool, true, false, cond, not}
+use mathlib.Core.List.{List, [], ◌∷◌, ◌++◌}
+use Prim.Native.Nat.{ℕ, zero, suc, ◌+◌, ◌<◌, ◌≤◌}
+use native.Mathlib.Omega.{arith}
+use lib.ListN.{length, length-append}
+use lib.Dec.{ltb, eqb}
+use borrow.Author.Tests.{lt-ltb, le-ltb, ltb-true, ne_eqb, eqb-true, not-true}
+use Rattle.records.proofs.LimitLaws.{and_left, and_right}
+use Rattle.records.specs.declared.Kind.TheVariants.{Ended, CardOrder, CardUnit}
+use Rattle.records.specs.Refusals.{refusal}
+use Rattle.reader.specs.Text.{more, byte, digitAt, digits}
+use Rattle.reader.proofs.Digits.{within}
+use Rattle.reader.proofs.Laws.{never, present}
+use Rattle.deck.specs.declared.cards.Word.{Word}
+use Rattle.deck.specs.declared.cards.Word.TheVariants.{Dist, Depth, Other}
+use Rattle.deck.specs.declared.cards.Last.{Last}
+use Rattle.deck.specs.Number.{countAt, worthAt, countGood, goodAt, pastAt, tenthsAt, wholeAt}
+use Rattle.deck.specs.Cards.{inWord, wordEnd, wordAt, Numbers, numbers, misshapen, before, numbersAt, headGood, Card, card, noCard, cardWith, cardAt}
+use Rattle.deck.specs.Cards.{none, followsBy, follows, Cards, cards, refused, inFront, afterCard, cardsBy, deckOf}
+use Rattle.deck.specs.Deck.{pointLine, pointLines}
+use Rattle.deck.specs.Walk.{pastSpaces, firstAt, nextFrom, nextAt, numbersFrom, walked, linesFrom}
+use Rattle.deck.proofs.Sizes.{Short}
+use Rattle.deck.proofs.NumberLaws.{tenths-short}
+use Rattle.deck.proofs.CardLaws.{Spans, card-past}
+
+-- ---- past the spaces of a card
+
+module _ (s : List ℕ) where
+  -- one unit of fuel more than the text has bytes left changes nothing
+  one-more : (n k at : ℕ) → length s ≤ at + n → pastSpaces s n k at ≡ pastSpaces s (suc n) k at
+  unfolding pastSpaces
+  one-more zero zero at h = refl
+  one-more zero (suc k) at h = sym (rw (le-ltb at (length s) (omega arith)))
+  one-more (suc n) zero at h = refl
+  one-more (suc n) (suc k) at h =
+      ap (λ (x : ℕ). cond (ltb at (length s)) x at) (one-more n (cond (eqb (byte s at) 32) k (suc k)) (at + 1) (omega arith))
+
+  -- the place past the next k spaces
+  abbrev over : ℕ → ℕ → ℕ
+  over k at = pastSpaces s (length s) k at
+
+  over-none : (n at : ℕ) → pastSpaces s n 0 at ≡ at
+  unfolding pastSpaces
+  over-none zero at = refl
+  over-none (suc n) at = refl
+
+  over-byte : (k at : ℕ) → at < length s → over (suc k) at ≡ over (cond (eqb (byte s at) 32) k (suc k)) (at + 1)
+  unfolding pastSpaces
+  over-byte k at h = one-more (length s) (suc k) at (omega arith) ∙ rw (lt-ltb at (length s) h)
+
+  over-other : (k at : ℕ) → at < length s → eqb (byte s at) 32 ≡ false → over (suc k) at ≡ over (suc k) (at + 1)
+  over-other k at h e = over-byte k at h ∙ rw e
+
+  over-space : (k at : ℕ) → byte s at ≡ 32 → over (suc k) at ≡ over k (at + 1)
+  over-space k at e = over-byte k at (present s at 32 (omega arith) e) ∙ rw e
+
+  over-word : (k n at : ℕ) → over (suc k) at ≡ over (suc k) (wordEnd s n at)
+  unfolding wordEnd inWord
+  over-word k zero at = refl
+  over-word k (suc n) at = go (inWord s at) refl (over-word k n (at + 1))
+    where
+      go : (t : Bool) → inWord s at ≡ t → over (suc k) (at + 1) ≡ over (suc k) (wordEnd s n (at + 1))
+          → over (suc k) at ≡ over (suc k) (cond t (wordEnd s n (at + 1)) at)
+      go true e r =
+          let a = ltb-true at (length s) (and_left (ltb at (length s)) _ e) in
+          let b = and_left (not (eqb (byte s at) 32)) _ (and_right (ltb at (length s)) _ e) in
+          over-other k at a (not-true _ b) ∙ r
+      go false e r = refl
+
+  digit-other : (at : ℕ) → digitAt s at < 10 → eqb (byte s at) 32 ≡ false
+  unfolding digitAt
+  digit-other at h = ne_eqb (byte s at) 32 (λ (e : byte s at ≡ 32). omega (arith, rw e at h))
+
+  over-digits : (k n at : ℕ) → over (suc k) at ≡ over (suc k) (at + digits s n at)
+  unfolding digits
+  over-digits k zero at = ap (over (suc k)) (omega arith)
+  over-digits k (suc n) at = go (ltb (digitAt s at) 10) refl (over-digits k n (at + 1))
+    where
+      go : (t : Bool) → ltb (digitAt s at) 10 ≡ t → over (suc k) (at + 1) ≡ over (suc k) (at + 1 + digits s n (at + 1))
+          → over (suc k) at ≡ over (suc k) (at + cond t (suc (digits s n (at + 1))) 0)
+      go true e r =
+          let h : digitAt s at < 10 = ltb-true _ _ e in
+          over-other k at (within s at h) (digit-other at h) ∙ r ∙ ap (over (suc k)) (omega arith)
+      go false e r = ap (over (suc k)) (omega arith)
+
+  -- where a card has its word and its card number, these two spaces stand behind them
+  first-is : (at end : ℕ) → end ≡ wordEnd s (length s) at → headGood s at end ≡ true → firstAt s at ≡ end + 1 + countAt s (end + 1) + 1
+  unfolding headGood firstAt countAt
+  first-is at end w h =
+      let a = and_right (ltb at end) _ h in
+      let b = and_right (eqb (byte s end) 32) _ a in
+      let p = eqb-true (byte s end) 32 (and_left (eqb (byte s end) 32) _ a) in
+      let q = eqb-true (byte s (end + 1 + digits s 9 (end + 1))) 32 (and_right (countGood (digits s 9 (end + 1))) _ b) in
+      over-word 1 (length s) at
+      ∙ rw (← w)
+      (over-space 1 end p
+      ∙ over-digits 0 9 (end + 1)
+      ∙ over-space 0 (end + 1 + digits s 9 (end + 1)) q
+      ∙ over-none (length s) (end + 1 + digits s 9 (end + 1) + 1))
+
+-- ---- numbers one behind the other
+
+-- from a place on a cursor meets just these numbers, each short, and behind them it is at the place `to`
+pub record Walks (s : List ℕ) (at : ℕ) (ts : List ℕ) (to : ℕ) : Type 0 where
+  pub meets : numbersFrom s (length ts) at ≡ ts
+  pub ends : walked s (length ts) at ≡ to
+  pub short : Short ts
+
+module _ (s : List ℕ) where
+  walks-none : (at : ℕ) → Walks s at [] at
+  unfolding numbersFrom walked
+  walks-none at = record { meets = refl; ends = refl; short = tt }
+
+  walks-one : (at to : ℕ) → goodAt s at ≡ true → nextAt s at ≡ to → Walks s at (tenthsAt s at ∷ []) to
+  unfolding numbersFrom walked
+  walks-one at to g e = record { meets = refl; ends = e; short = (tenths-short s at g, tt) }
+
+  numbers-on : (n m at : ℕ) → numbersFrom s (n + m) at ≡ numbersFrom s n at ++ numbersFrom s m (walked s n at)
+  unfolding numbersFrom walked
+  numbers-on zero m at = let e : 0 + m ≡ m = omega arith in rw e
+  numbers-on (suc n) m at =
+      let e : suc n + m ≡ suc (n + m) = omega arith in
+      rw e (ap (λ (x : List ℕ). tenthsAt s at ∷ x) (numbers-on n m (nextAt s at)))
+
+  walked-on : (n m at : ℕ) → walked s (n + m) at ≡ walked s m (walked s n at)
+  unfolding walked
+  walked-on zero m at = let e : 0 + m ≡ m = omega arith in rw e
+  walked-on (suc n) m at = let e : suc n + m ≡ suc (n + m) = omega arith in rw e (walked-on n m (nextAt s at))
+
+short-on : (ts us : List ℕ) → Short ts → Short us → Short (ts ++ us)
+short-on [] us p q = q
+short-on (t ∷ ts) us p q = (p.0, short-on ts us p.1 q)
+
+walks-on : {s : List ℕ} {at : ℕ} {ts : List ℕ} {mid : ℕ} {us : List ℕ} {to : ℕ} → Walks s at ts mid → Walks s mid us to → Walks s at (ts ++ us) to
+walks-on {s} {at} {ts} {mid} {us} {to} h g = record {
+  meets = rw (length-append ts us, numbers-on s (length ts) (length us) at, h.ends, h.meets, g.meets);
+  ends = rw (length-append ts us, walked-on s (length ts) (length us) at, h.ends) g.ends;
+  short = short-on ts us h.short g.short;
+}
+
+-- ---- the numbers of a card
+
+-- a cursor at the first of them meets them all, and then stands on the first number of the next card
+NumbersWalk : List ℕ → ℕ → Numbers → Type 0
+NumbersWalk s at (numbers ts whole past) = Walks s at ts (firstAt s past)
+NumbersWalk s at misshapen = Unit
+
+module _ (s : List ℕ) where
+  next-card : (at : ℕ) → byte s (pastAt s at) ≡ 10 → nextAt s at ≡ firstAt s (pastAt s at + 1)
+  unfolding nextAt nextFrom
+  next-card at e = rw (lt-ltb _ _ (present s (pastAt s at) 10 (omega arith) e), e)
+
+  next-number : (at : ℕ) → byte s (pastAt s at) ≡ 32 → nextAt s at ≡ pastAt s at + 1
+  unfolding nextAt nextFrom
+  next-number at e = rw (lt-ltb _ _ (present s (pastAt s at) 32 (omega arith) e), e)
+
+  walks-before : (at : ℕ) (x : Numbers) → goodAt s at ≡ true → byte s (pastAt s at) ≡ 32 → NumbersWalk s (pastAt s at + 1) x
+      → NumbersWalk s at (before (tenthsAt s at) (wholeAt s at) x)
+  unfolding NumbersWalk
+  walks-before at (numbers ts whole past) g e h = walks-on (walks-one s at (pastAt s at + 1) g (next-number at e)) h
+  walks-before at misshapen g e h = tt
+
+  numbers-walk : (n at : ℕ) → NumbersWalk s at (numbersAt s n at)
+  unfolding numbersAt NumbersWalk
+  numbers-walk zero at = tt
+  numbers-walk (suc n) at = go (goodAt s at) refl (eqb (byte s (pastAt s at)) 10) refl (eqb (byte s (pastAt s at)) 32) refl (numbers-walk n (pastAt s at + 1))
+    where
+      go : (g : Bool) → goodAt s at ≡ g → (t : Bool) → eqb (byte s (pastAt s at)) 10 ≡ t → (u : Bool) → eqb (byte s (pastAt s at)) 32 ≡ u
+          → NumbersWalk s (pastAt s at + 1) (numbersAt s n (pastAt s at + 1))
+          → NumbersWalk s at
+          (cond g
+          (cond t
+          (numbers (tenthsAt s at ∷ []) (wholeAt s at) (pastAt s at + 1))
+          (cond u (before (tenthsAt s at) (wholeAt s at) (numbersAt s n (pastAt s at + 1))) misshapen))
+          misshapen)
+      go false p t q u r h = tt
+      go true p true q u r h = walks-one s at (firstAt s (pastAt s at + 1)) p (next-card at (eqb-true _ _ q))
+      go true p false q false r h = tt
+      go true p false q true r h = walks-before at (numbersAt s n (pastAt s at + 1)) p (eqb-true _ _ r) h
+
+-- ---- a card, and the cards
+
+CardWalk : List ℕ → ℕ → Card → Type 0
+CardWalk s at (card w n ns) = NumbersWalk s (firstAt s at) ns
+CardWalk s at noCard = Unit
+
+card-walk : (s : List ℕ) (at : ℕ) → CardWalk s at (cardAt s at)
+unfolding cardAt cardWith CardWalk
+card-walk s at = go (wordEnd s (length s) at) refl (headGood s at (wordEnd s (length s) at)) refl
+  where
+    go : (end : ℕ) → end ≡ wordEnd s (length s) at → (t : Bool) → headGood s at end ≡ t
+        → CardWalk s at (cond t (card (wordAt s at) (worthAt s (end + 1)) (numbersAt s 6 (end + 1 + countAt s (end + 1) + 1))) noCard)
+    go end w false e = tt
+    go end w true e =
+        let start = end + 1 + countAt s (end + 1) + 1 in
+        subst (λ (i : ℕ). NumbersWalk s i (numbersAt s 6 start)) (sym (first-is s at end w e)) (numbers-walk s 6 start)
+
+-- of the cards from a place on, behind a card with the word w, a cursor meets first the distances and then the depths; behind DEPTH are no distances
+record CardsWalks (s : List ℕ) (at : ℕ) (w : Word) (ds hs : List ℕ) : Type 0 where
+  mid : ℕ
+  to : ℕ
+  distances : Walks s (firstAt s at) ds mid
+  depths : Walks s mid hs to
+  few : at ≤ length s → at + length ds + length hs ≤ length s
+  order : w ≡ Depth → ds ≡ []
+
+CardsWalk : List ℕ → ℕ → Word → Cards → Type 0
+CardsWalk s at w (cards ds hs) = CardsWalks s at w ds hs
+CardsWalk s at w (refused r) = Unit
+
+module _ (s : List ℕ) where
+  no-card : (at : ℕ) (w : Word) → CardsWalk s at w (cards [] [])
+  unfolding CardsWalk
+  no-card at w = record {
+    mid = firstAt s at;
+    to = firstAt s at;
+    distances = walks-none s (firstAt s at);
+    depths = walks-none s (firstAt s at);
+    few = λ h. omega arith;
+    order = λ e. refl;
+  }
+
+  module _ (at past : ℕ) (ts : List ℕ) (h : Walks s (firstAt s at) ts (firstAt s past)) (b : Spans s at (length ts) past) where
+    -- with a card in front
+    dist-front : (x : Cards) → CardsWalk s past Dist x → CardsWalk s at Dist (inFront Dist ts x)
+    unfolding CardsWalk
+    dist-front (refused r) k = tt
+    dist-front (cards ds hs) k = record {
+      mid = k.mid;
+      to = k.to;
+      distances = walks-on h k.distances;
+      depths = k.depths;
+      few = λ l. omega (arith, b.ends, k.few b.within, length-append ts ds);
+      order = λ (e : Dist ≡ Depth). cc;
+    }
+
+    depth-front : (u : Word) (x : Cards) → CardsWalk s past Depth x → CardsWalk s at u (inFront Depth ts x)
+    unfolding CardsWalk walked
+    depth-front u (refused r) k = tt
+    depth-front u (cards (d ∷ ds) hs) k = let e : d ∷ ds ≡ [] = k.order refl in cc
+    depth-front u (cards [] hs) k = record {
+      mid = firstAt s at;
+      to = k.to;
+      distances = walks-none s (firstAt s at);
+      depths = walks-on h (subst (λ (i : ℕ). Walks s i hs k.to) (sym k.distances.ends) k.depths);
+      few = λ l. omega (arith, b.ends, k.few b.within, length-append ts hs);
+      order = λ e. refl;
+    }
+
+    in-front : (u : Word) (m : ℕ) (w : Word) (n : ℕ) → followsBy u m w n ≡ true → (x : Cards) → CardsWalk s past w x → CardsWalk s at u (inFront w ts x)
+    unfolding followsBy
+    in-front Dist m Dist n e x k = dist-front x k
+    in-front Dist m Depth n e x k = depth-front Dist x k
+    in-front Dist m Other n e x k = absurd (never e)
+    in-front Depth m Dist n e x k = absurd (never e)
+    in-front Depth m Depth n e x k = depth-front Depth x k
+    in-front Depth m Other n e x k = absurd (never e)
+    in-front Other m w n e x k = absurd (never e)
+
+  after-card : (at : ℕ) (c : Card) (last : Last) (line : ℕ) (next : Last → ℕ → ℕ → Cards) → cardAt s at ≡ c → CardWalk s at c
+      → ((l : Last) (p k : ℕ) → CardsWalk s p l.word (next l p k)) → CardsWalk s at last.word (afterCard c last line next)
+  unfolding CardWalk NumbersWalk CardsWalk cardAt follows
+  after-card at noCard last line next q h k = tt
+  after-card at (card w n misshapen) last line next q h k = tt
+  after-card at (card w n (numbers ts whole past)) last line next q h k = go (followsBy last.word last.number w n) refl whole
+    where
+      go : (t : Bool) → followsBy last.word last.number w n ≡ t → (v : Bool)
+          → CardsWalk s at last.word
+          (cond t (cond v (inFront w ts (next (record { word = w; number = n }) past line)) (refused (refusal CardUnit line))) (refused (refusal CardOrder line)))
+      go false e v = tt
+      go true e false = tt
+      go true e true =
+          let b = card-past s at (wordEnd s (length s) at) w n ts whole past q in
+          let l : Last = record { word = w; number = n } in
+          in-front at past ts h b last.word last.number w n e (next l past line) (k l past line)
+
+  cards-walk : (n : ℕ) (last : Last) (at line : ℕ) → CardsWalk s at last.word (cardsBy s n last at line)
+  unfolding cardsBy
+  cards-walk zero last at line = no-card at last.word
+  cards-walk (suc n) last at line = go (ltb at (length s)) (after-card at (cardAt s at) last (more line) (cardsBy s n) refl (card-walk s at) (cards-walk n))
+    where
+      go : (t : Bool) → CardsWalk s at last.word (afterCard (cardAt s at) last (more line) (cardsBy s n))
+          → CardsWalk s at last.word (cond t (afterCard (cardAt s at) last (more line) (cardsBy s n)) (cards [] []))
+      go true h = h
+      go false h = no-card at last.word
+
+  deck-walk : CardsWalk s 0 Dist (deckOf s)
+  unfolding deckOf CardsWalk
+  deck-walk = go (eqb (length s) 0) (cards-walk (length s) none 0 0)
+    where
+      go : (t : Bool) → CardsWalk s 0 Dist (cardsBy s (length s) none 0 0) → CardsWalk s 0 Dist (cond t (refused (refusal Ended 0)) (cardsBy s (length s) none 0 0))
+      go true h = tt
+      go false h = h
+
+  -- ---- the deck
+
+  module _ (ds hs : List ℕ) (e : deckOf s ≡ cards ds hs) where
+    deck-walks : CardsWalks s 0 Dist ds hs
+    unfolding CardsWalk
+    deck-walks = subst (CardsWalk s 0 Dist) e deck-walk
+
+    pub deck-short : Short ds × Short hs
+    deck-short = let k = deck-walks in (k.distances.short, k.depths.short)
+
+    pub deck-few : length ds + length hs ≤ length s
+    deck-few = omega (arith, deck-walks.few (omega arith))
+
+    -- the cursors begin at the first distance and behind the last one
+    pub deck-numbers : (numbersFrom s (length ds) (firstAt s 0) ≡ ds) × (numbersFrom s (length hs) (walked s (length ds) (firstAt s 0)) ≡ hs)
+    deck-numbers = let k = deck-walks in (k.distances.meets, rw k.distances.ends k.depths.meets)
+
+-- ---- lines
+
+lines-are : (s : List ℕ) (n a b : ℕ) → linesFrom s n a b ≡ pointLines (numbersFrom s n a) (numbersFrom s n b)
+unfolding linesFrom pointLines numbersFrom
+lines-are s zero a b = refl
+lines-are s (suc n) a b = ap (λ (x : List ℕ). pointLine (tenthsAt s a) (tenthsAt s b) ++ x) (lines-are s n (nextAt s a) (nextAt s b))
+
+pub deck-lines : (s : List ℕ) (ds hs : List ℕ) → deckOf s ≡ cards ds hs → length ds ≡ length hs
+    → linesFrom s (length ds) (firstAt s 0) (walked s (length ds) (firstAt s 0)) ≡ pointLines ds hs
+deck-lines s ds hs e n =
+    let k = deck-numbers s ds hs e in
+    lines-are s (length ds) (firstAt s 0) (walked s (length ds) (firstAt s 0)) ∙ rw (k.0, n, rw n at k.1)
