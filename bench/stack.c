@@ -14,15 +14,16 @@ static int64_t points[FENNHOP_READ_POINTS], storm[FENNHOP_READ_STORM], state[FEN
 static int64_t head[FENNHOP_HEAD], cursor[FENNHOP_CURSOR], values[FENNHOP_VALUES], setup[FENNHOP_SETUP_STRIDE * SEGMENTS];
 static int64_t winds[FENNHOP_WINDS_STRIDE * WINDS], sites[FENNHOP_SITES_STRIDE * POINTS], room[FENNHOP_READ_STORM];
 static fennhop_row rows[SEGMENTS];
-static char traverse_text[4096], storm_text[8192];
+static char traverse_text[4096], storm_text[8192], deck[4096];
+static uint8_t text[4096];
 
 static unsigned char stack[SIZE], *frame; /* the frame of the function that makes the call */
 static ucontext_t here, there;
 static uint64_t told;
 
-/* What the cases change: numbers that are refused, the seconds, the bytes of text, the room for a record. */
+/* What the cases change: numbers that are refused, the seconds, the bytes of text, the room for a record and for a text. */
 static int64_t latitude = 430, seconds, shore_wind, central_pressure = 2757;
-static size_t traverse_bytes, storm_bytes, room_count = FENNHOP_READ_STORM;
+static size_t traverse_bytes, storm_bytes, deck_bytes, room_count = FENNHOP_READ_STORM, text_count = sizeof text;
 
 static void open_traverse(void)
 {
@@ -60,6 +61,12 @@ static void make_record(void)
                                FENNHOP_SITES_STRIDE * POINTS, room, room_count, answer, FENNHOP_ANSWER);
 }
 
+static void read_deck(void)
+{
+    frame = __builtin_frame_address(0);
+    told = fennhop_read_deck(latitude, 25, 0, (const uint8_t *)deck, deck_bytes, text, text_count, answer, FENNHOP_ANSWER);
+}
+
 /* Bytes between the caller's frame and the deepest one that was written. */
 static long used(void (*call)(void), uint64_t number)
 {
@@ -85,17 +92,21 @@ static long most(long a, long b)
     return a > b ? a : b;
 }
 
-/* Both texts, of the most points. */
+/* Both texts, of the most points, and a deck of as many. */
 static void write_texts(void)
 {
     int t = sprintf(traverse_text, "latitude friction initial\n430 25 0\ndistance depth\n");
-    int s = sprintf(storm_text, "seconds tide wind angle deficit\n");
+    int s = sprintf(storm_text, "seconds tide wind angle deficit\n"), d = 0;
     for (int i = 0; i < POINTS; i++) {
         t += sprintf(traverse_text + t, "%d %d\n", 40 * (SEGMENTS - i), 500 + 50 * (SEGMENTS - i));
         s += sprintf(storm_text + s, "0 0 %d %d 100\n", 200 + i, 900 + 10 * i);
+        d += sprintf(deck + d, "DIST %d %d.0\n", i + 1, 4 * (SEGMENTS - i));
     }
+    for (int i = 0; i < POINTS; i++)
+        d += sprintf(deck + d, "DEPTH %d %d.5\n", i + 1, 50 + 5 * (SEGMENTS - i));
     traverse_bytes = (size_t)t;
     storm_bytes = (size_t)s;
+    deck_bytes = (size_t)d;
 }
 
 /* The longest list of winds, and points from beyond its last radius to inside its first. */
@@ -161,6 +172,22 @@ static long of_making(void)
     return bytes;
 }
 
+/* A deck that is accepted; one refused by its first and by its last check, and in its last line. */
+static long of_deck(void)
+{
+    long bytes = used(read_deck, 0);
+    latitude = -1;
+    bytes = most(bytes, used(read_deck, FENNHOP_REFUSED_TRAVERSE_VALUE));
+    latitude = 430;
+    text_count = traverse_bytes - 1;
+    bytes = most(bytes, used(read_deck, FENNHOP_REFUSED_LENT));
+    text_count = sizeof text;
+    deck_bytes--;
+    bytes = most(bytes, used(read_deck, FENNHOP_REFUSED_MALFORMED));
+    deck_bytes++;
+    return bytes;
+}
+
 /* One round before, so that what the dynamic linker does once is not counted. */
 int main(void)
 {
@@ -170,12 +197,12 @@ int main(void)
         memset(rows, 0, sizeof rows);
         seconds = 0;
         long reading_traverse = of_reading(read_traverse, &traverse_bytes), reading_record = of_reading(read_record, &storm_bytes);
-        long opening = of_opening(), taking = of_taking(), making = of_making();
+        long opening = of_opening(), taking = of_taking(), making = of_making(), converting = of_deck();
         if (round == 0)
             continue;
         printf("fennhop_open_traverse %ld\nfennhop_take_record %ld\n", opening, taking);
         printf("fennhop_read_traverse %ld\nfennhop_read_record %ld\n", reading_traverse, reading_record);
-        printf("fennhop_make_record %ld\n", making);
+        printf("fennhop_make_record %ld\nfennhop_read_deck %ld\n", making, converting);
     }
     return 0;
 }

@@ -20,6 +20,13 @@
  * angle is the one given. Seconds and tide are passed on as they are given: they, and the elapsed time, may still be refused by
  * fennhop_take_record (9, place 0). Every other number of a record that was made passes check 9.
  *
+ * AN OLD CARD DECK, the DIST and DEPTH cards of TM-50 as text and held whole by the caller, is turned into the text of traverse.txt by
+ * fennhop_read_deck; latitude, friction and initial level are given. A card is a line: a word, a card number and one to six numbers,
+ * one space between two of them and a line feed behind the last. A word is any bytes but space and line feed, a card number one to
+ * eight digits, and so is a number, with at most one point before, between or behind them. DIST cards come first, with distances in
+ * nautical miles from shore; then DEPTH cards, with depths in feet. Both are numbered from 1. A deck may have any number of points:
+ * count, values and distances are judged where the text that was written is read (5) and opened (6, 7).
+ *
  * NUMBERS AND LIMITS. All are whole numbers, int64_t. Both ends of a limit are allowed.
  *
  *   latitude           0.1 degree north                           0 to 900
@@ -46,10 +53,12 @@
  *   x, y               0.1 mile, in a plane of the caller's       -10,000 to 10,000
  *   list's radius      0.1 mile from the centre                   0 to 30,000, each above the one before
  *
- * ARRAYS. Each is a pointer and, right after it, a count: of rows for `rows`, of bytes for `text`, and for every other array of its
- * numbers (not of points). All are the caller's: they are used during the call alone, and the library keeps no pointer. Arrays marked
- * const are only read. A pointer may be NULL where its count is 0, and only there; otherwise it points to so many of them, aligned as
- * C aligns their type. Arrays that a call may write must not overlap each other nor an array that it reads.
+ * A number of a card is a decimal one, and a whole count of tenths: 12.5, 12.50, 0012.5, 12. and .5 are; 12.55 is not.
+ *
+ * ARRAYS. Each is a pointer and, right after it, a count: of rows for `rows`, of bytes for `text` and `deck`, and for every other array
+ * of its numbers (not of points). All are the caller's: they are used during the call alone, and the library keeps no pointer. Arrays
+ * marked const are only read. A pointer may be NULL where its count is 0, and only there; otherwise it points to so many of them,
+ * aligned as C aligns their type. Arrays that a call may write must not overlap each other nor an array that it reads.
  *
  *   points   FENNHOP_POINTS_STRIDE numbers a point, sea to shore: distance, depth. 2 to 65 points.
  *   storm    FENNHOP_STORM_STRIDE numbers a point, in the order of the traverse: wind, angle, deficit.
@@ -63,6 +72,7 @@
  *            [0] the place of a refusal, else 0; [1], [2] low and high of the height at the shore where a record is accepted, else 0.
  *            Reading a text: [1] the points of the traverse, or 1 where a record was read; else 0. [2] is 0.
  *            Making a record: [1], [2] seconds and tide as given where it is made, else 0.
+ *            Reading a deck: [1] the bytes of the text that was written, else 0. [2] is 0.
  *
  * and for reading a text:
  *
@@ -84,14 +94,23 @@
  *            behind them stays as it was. The march's call is given FENNHOP_STORM_STRIDE times the points as its count: room of just
  *            so many numbers is handed on as it is, and answer[1] and answer[2] with it as seconds and tide.
  *
+ * and for reading a deck:
+ *
+ *   deck     bytes, uint8_t, only read; any bytes, any count.
+ *   text     room for the text of traverse.txt, bytes, uint8_t, which a deck that is accepted sets from its front on; spare room
+ *            behind it stays as it was. fennhop_read_traverse is given answer[1] as its count.
+ *
  * WHAT A CALL RETURNS: 0 where it is accepted, else the number of the first refusal, with its place in answer[0] (lines, points, rows
  * and segments count from 1). Each number has a name below. The march's two calls make their checks in the order of this table, 5 to
- * 12 alone; the two that read a text return 1 to 5 alone, and fennhop_make_record 13, 14 and 8 alone, in the order told at each.
+ * 12 alone; the two that read a text return 1 to 5 alone, fennhop_make_record 13, 14 and 8 alone, and fennhop_read_deck 6, 3, 2, 15,
+ * 16, 17 and 8 alone, in the order told at each.
  *
  *    1  a names line different, or the text empty                                    line; 1 if empty
  *    2  a value line malformed, or a wrong count of values                           line
+ *       reading a deck: a line that has not the shape of a card                      line
  *    3  the text ends inside a record, or before the value line, the first point
  *       or the first record                                                          last line
+ *       reading a deck: a deck of no bytes                                           0
  *    4  seconds or tide differ within a record                                       line
  *    5  fewer than 2 or more than 65 points                                          points given
  *    6  a value of the traverse past its limits                                      point; 0 for latitude, friction, initial level
@@ -99,7 +118,8 @@
  *    8  rows not one for each segment, points of the record not as many as of the
  *       traverse, setup neither 0 nor two numbers a segment (place 0); or a row
  *       whose low is above its high or that is past its limits                       row
- *       making a record: room for fewer numbers than it writes                       0
+ *       making a record, reading a deck: room for fewer numbers or bytes than it
+ *       writes                                                                       0
  *    9  a value of the record past its limits                                        point; 0 for seconds, tide, elapsed
  *   10  water depth past 100 to 100,000 (0.01 ft)                                    segment
  *   11  flux past its limits                                                         segment
@@ -107,18 +127,21 @@
  *   13  making a record: a pressure, R, the centre or a count past its limits
  *       (place 0); a radius or a wind of the list; x, y or angle of a point          row of the list; point
  *   14  making a record: a radius of the list not above the one before               row, the later of the two
+ *   15  reading a deck: a wrong word, or a wrong card number                         line
+ *   16  reading a deck: a number that is no whole count of tenths                    line
+ *   17  reading a deck: not as many depths as distances                              distances given
  *
  * FENNHOP_WRONG_BUFFER: `state`, `answer`, or what a text is read into, is not as long as it has to be; no check was made and nothing
  * was written, the answer neither.
  *
  * A count that is no multiple of the numbers of a point, or of a row of the list, counts as none at all: 5, place 0, for `points`, 8,
- * place 0, for `storm`, 13, place 0, for `sites` and `winds`. Room for a record may have any count from what is written on. An elapsed
- * time in `state` that is itself past its limits is 9, place 0. Within a segment 10 comes before 11 and 11 before 12, and all three
- * before the next segment.
+ * place 0, for `storm`, 13, place 0, for `sites` and `winds`. Room may have any count from what is written on. An elapsed time in
+ * `state` that is itself past its limits is 9, place 0. Within a segment 10 comes before 11 and 11 before 12, and all three before the
+ * next segment.
  *
  * A refused call writes nothing but its answer: state, rows and setup stay exactly as they were, so the caller may mend the record and
  * call again. A refused reading leaves head, points, cursor, values and storm exactly as they were, and a record that is not made
- * leaves its room so.
+ * leaves its room so, as does a deck that is refused.
  *
  * STACK that a call needs, from its caller's frame down, as measured on x86-64 (bench/stack.c) and rounded up to a multiple of 512.
  * What a dynamic linker needs to find memcpy the first time is not in it.
@@ -128,6 +151,7 @@
  *   fennhop_read_traverse     1,536 bytes
  *   fennhop_read_record       2,048 bytes
  *   fennhop_make_record       8,704 bytes
+ *   fennhop_read_deck           512 bytes
  */
 #ifndef FENNHOP_SURGE_H
 #define FENNHOP_SURGE_H
@@ -140,8 +164,8 @@ extern "C" {
 #endif
 
 /* The version of this header and its library; the number is 10,000 * major + 100 * minor + patch. */
-#define FENNHOP_VERSION "1.1.0"
-#define FENNHOP_VERSION_NUMBER 10100
+#define FENNHOP_VERSION "1.2.0"
+#define FENNHOP_VERSION_NUMBER 10200
 
 /* The most points of a traverse, and the most segments between them. */
 #define FENNHOP_MOST_POINTS 65
@@ -181,6 +205,9 @@ extern "C" {
 #define FENNHOP_REFUSED_SETUP 12          /* setup past its limits */
 #define FENNHOP_REFUSED_STORM_VALUE 13    /* a value or a count that a record is made from past its limits */
 #define FENNHOP_REFUSED_WIND_RADII 14     /* radii of the list of winds do not rise */
+#define FENNHOP_REFUSED_CARD_ORDER 15     /* a wrong word or card number of a deck */
+#define FENNHOP_REFUSED_CARD_UNIT 16      /* a number of a deck that is no whole count of tenths */
+#define FENNHOP_REFUSED_CARD_COUNTS 17    /* not as many depths of a deck as distances */
 
 /* Returned where an array that has one length is lent with another. */
 #define FENNHOP_WRONG_BUFFER 255
@@ -236,6 +263,14 @@ uint64_t fennhop_make_record(int64_t central_pressure, int64_t edge_pressure, in
                              const int64_t *sites, size_t sites_count,
                              int64_t *storm, size_t storm_count,
                              int64_t *answer, size_t answer_count);
+
+/* Turns an old card deck into the text of traverse.txt. In this order: the length of answer, 255; 6, place 0, for latitude, friction
+ * and initial level; 3, place 0, for a deck of no bytes; then line by line 2, 15 and 16; 17; the room, 8, place 0. Accepted: the text
+ * stands at the front of text, and answer[1] is how many bytes it has. Refused: text is left as it was. */
+uint64_t fennhop_read_deck(int64_t latitude, int64_t friction, int64_t initial,
+                           const uint8_t *deck, size_t deck_count,
+                           uint8_t *text, size_t text_count,
+                           int64_t *answer, size_t answer_count);
 
 #ifdef __cplusplus
 }

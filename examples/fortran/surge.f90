@@ -1,14 +1,14 @@
 ! All of include/surge.h for Fortran: every constant, the row of a segment and every call, under the header's names. The header says
 ! what each number is, its unit and limits, who owns what, and the refusals.
-! An array goes in with a count after it: of rows for `rows`, of bytes for `text`, of its numbers for every other. Fortran has no
-! unsigned numbers: none that is returned is past 255, and a byte of a text above 127 is a negative c_int8_t, the same bits.
+! An array goes in with a count after it: of rows for `rows`, of bytes for `text` and `deck`, of its numbers for every other. Fortran
+! has no unsigned numbers: none that is returned is past 255, and a byte of a text above 127 is a negative c_int8_t, the same bits.
 module surge
   use, intrinsic :: iso_c_binding, only: c_int8_t, c_int64_t, c_size_t
   implicit none
 
   ! The version of the header and its library; the number is 10,000 * major + 100 * minor + patch.
-  character(*), parameter :: fennhop_version = '1.1.0'
-  integer, parameter :: fennhop_version_number = 10100
+  character(*), parameter :: fennhop_version = '1.2.0'
+  integer, parameter :: fennhop_version_number = 10200
 
   ! The most points of a traverse, and the most segments between them.
   integer(c_size_t), parameter :: fennhop_most_points = 65
@@ -48,6 +48,9 @@ module surge
   integer(c_int64_t), parameter :: fennhop_refused_setup = 12          ! setup past its limits
   integer(c_int64_t), parameter :: fennhop_refused_storm_value = 13    ! a value or a count that a record is made from past its limits
   integer(c_int64_t), parameter :: fennhop_refused_wind_radii = 14     ! radii of the list of winds do not rise
+  integer(c_int64_t), parameter :: fennhop_refused_card_order = 15     ! a wrong word or card number of a deck
+  integer(c_int64_t), parameter :: fennhop_refused_card_unit = 16      ! a number of a deck that is no whole count of tenths
+  integer(c_int64_t), parameter :: fennhop_refused_card_counts = 17    ! not as many depths of a deck as distances
 
   ! Returned where an array that has one length is lent with another.
   integer(c_int64_t), parameter :: fennhop_wrong_buffer = 255
@@ -105,6 +108,17 @@ module surge
       integer(c_int64_t), intent(in) :: winds(*), sites(*)
       integer(c_size_t), value :: winds_count, sites_count, storm_count, answer_count
       integer(c_int64_t), intent(inout) :: storm(*), answer(*)
+      integer(c_int64_t) :: number
+    end function
+
+    function fennhop_read_deck(latitude, friction, initial, deck, deck_count, text, text_count, answer, answer_count) &
+                               bind(c) result(number)
+      import :: c_int8_t, c_int64_t, c_size_t
+      integer(c_int64_t), value :: latitude, friction, initial
+      integer(c_int8_t), intent(in) :: deck(*)
+      integer(c_size_t), value :: deck_count, text_count, answer_count
+      integer(c_int8_t), intent(inout) :: text(*)
+      integer(c_int64_t), intent(inout) :: answer(*)
       integer(c_int64_t) :: number
     end function
   end interface

@@ -4,3 +4,4 @@ pub mod CallLaws
 pub mod TextLaws
 pub mod MakingLaws
 pub mod Again
+pub mod DeckLaws

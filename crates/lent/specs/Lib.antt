@@ -4,3 +4,4 @@ pub mod Calls
 pub mod Texts
 pub mod Making
 pub mod Again
+pub mod Decks

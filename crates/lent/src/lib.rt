@@ -1,14 +1,16 @@
-// The library's calls on numbers that a caller lends: opening a traverse, taking a record, reading the texts of both, and making a record. Every
-// check and every number is `march`'s, `reader`'s and `hurricane`'s own; here a caller's numbers are told apart, and answers written into them. `surge_c` exports these calls to C,
-// the one that takes a record on row structs.
+// The library's calls on numbers that a caller lends: opening a traverse, taking a record, reading the texts of both, making a record, and reading an
+// old card deck. Every check and every number is `march`'s, `reader`'s, `hurricane`'s and `deck`'s own; here a caller's numbers are told apart, and
+// answers written into them. `surge_c` exports these calls to C, the one that takes a record on row structs.
 #![tactic(auto)]
 
+mod decks;
 mod making;
 mod numbers;
 mod opening;
 mod reading;
 mod taking;
 
+pub use decks::read_deck;
 pub use making::make_record;
 pub use opening::open_traverse;
 pub use reading::{read_record, read_traverse};

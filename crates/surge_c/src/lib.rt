@@ -4,6 +4,7 @@
 
 ghost use Rattle.std.specs.Prelude.{◌≡◌, ◌*◌, ◌≤◌, length};
 ghost use Rattle.lent.specs.Calls.{leftOpen, Opens};
+ghost use Rattle.lent.specs.Decks.{leftText, ReadsDeck};
 ghost use Rattle.lent.specs.Making.{leftMake, Makes};
 ghost use Rattle.lent.specs.Texts.{leftTraverse, ReadsTraverse, leftRecord, ReadsRecord};
 ghost use Rattle.surge_c.specs.Rows.{laid, backed, movedRows};
@@ -76,6 +77,22 @@ pub extern "C" fn fennhop_make_record(
     lent::make_record(
         central, edge, radius, x, y, seconds, tide, winds, sites, storm, answer,
     )
+}
+
+// Turns an old card deck into the text of `traverse.txt`, with the three given values on its second line. `text` is room for it, to whose front it
+// goes. The answer has how many bytes were written.
+#[unsafe(no_mangle)]
+pub extern "C" fn fennhop_read_deck(
+    latitude: i64,
+    friction: i64,
+    initial: i64,
+    deck: &[u8],
+    text: &mut [u8],
+    answer: &mut [i64],
+) -> u64
+    ensures { ReadsDeck latitude friction initial deck.now text.old answer.old (leftText result text.new answer.new) }
+{
+    lent::read_deck(latitude, friction, initial, deck, text, answer)
 }
 
 // How many of n rows are moved: no more can be accepted.

@@ -1,0 +1,92 @@
+-- Turning a card deck into a traverse's text: what the function gave is what the definition says, and the statement of `specs/Decks.antt`. Assumes nothing.
+use mathlib.Core.Path.{◌≡◌, refl, sym, ap, subst, ◌∙◌}
+use mathlib.Core.Bool.{Bool, true, false, cond}
+use mathlib.Core.List.{List, [], ◌∷◌}
+use native.Mathlib.Omega.{arith}
+use Prim.Native.Nat.{ℕ, ◌*◌, ◌<◌, ◌^◌}
+use lib.Dec.{eqb}
+use lib.ListN.{length, take}
+use lib.IntN.{ℤ, pos}
+use Rattle.records.specs.declared.Head.{Head}
+use Rattle.records.specs.declared.Refusal.{Refusal}
+use Rattle.records.specs.Groups.{stationCount}
+use Rattle.records.specs.Refusals.{numberOf}
+use Rattle.records.specs.Shapes.{Traverse}
+use Rattle.records.proofs.GroupLaws.{wholes-times}
+use Rattle.records.proofs.RefusalLaws.{number-above}
+use Rattle.deck.specs.declared.Converted.{Converted}
+use Rattle.deck.specs.declared.Converted.TheVariants as code
+use Rattle.deck.specs.Deck.{LeftDeck, leftDeck, convertOf}
+use Rattle.deck.specs.Reading.{paired, ReadBack}
+use Rattle.deck.proofs.ReadingLaws.{wrote, deck-is-read}
+use Rattle.lent.specs.Numbers.{placeNumber, answerNumbers, refusedAnswer, wrongBuffer}
+use Rattle.lent.specs.Texts.{lentPlace}
+use Rattle.lent.specs.Again.{TraverseReading}
+use Rattle.lent.specs.Decks.{LeftText, leftText, afterConverted, deckWith, deckCall, textWritten, DeckTold, DeckThenTraverse}
+use Rattle.lent.proofs.Again.{whole-place, traverse-again}
+
+-- ---- what the code answers
+
+module _ (x : LeftDeck) (text : List ℕ) (answer : List ℤ) where
+  pub deck-wrong : eqb (length answer) 3 ≡ false → leftText wrongBuffer text answer ≡ deckWith x text answer
+  deck-wrong b = rw b
+
+  module _ (b : eqb (length answer) 3 ≡ true) (m : Converted) (text' : List ℕ) (h : leftDeck m text' ≡ x) where
+    pub deck-refused : (number : ℕ) (answer' : List ℤ) (refusal : Refusal) → m ≡ code.Refused refusal → number ≡ numberOf refusal.kind → answer' ≡ refusedAnswer refusal.place →
+        leftText number text' answer' ≡ deckWith x text answer
+    deck-refused number answer' refusal e n a = rw (b, ← h, e, n, a)
+
+    pub deck-written : (answer' : List ℤ) (n : ℕ) → m ≡ code.Text n → answer' ≡ answerNumbers (pos 0) (placeNumber n) (pos 0) → leftText 0 text' answer' ≡ deckWith x text answer
+    deck-written answer' n e a = rw (b, ← h, e, a)
+
+-- ---- the text that it wrote, read
+
+-- so many bytes were written, to the front of the room
+record WroteText (x : LeftDeck) (left : LeftText) : Type 0 where
+  bytes : ℕ
+  was : x.answer ≡ code.Text bytes
+  left-is : left ≡ afterConverted (code.Text bytes) x.text
+
+wrote-text : (x : LeftDeck) (text : List ℕ) (answer : List ℤ) (left : LeftText) → left ≡ deckWith x text answer → left.number ≡ 0 → WroteText x left
+wrote-text x text answer left k z = by (eqb (length answer) 3) x.answer refl k
+  where
+    by : (t : Bool) (c : Converted) → x.answer ≡ c → left ≡ cond t (afterConverted c x.text) (leftText wrongBuffer text answer) → WroteText x left
+    by true (code.Text n) e k = record { bytes = n; was = e; left-is = k }
+    by true (code.Refused refusal) e k = absurd (omega (arith, number-above refusal.kind, z, ap (λ (l : LeftText). l.number) k))
+    by false c e k = absurd (omega (arith, z, ap (λ (l : LeftText). l.number) k))
+
+-- two numbers a point
+paired-length : (ds hs : List ℕ) → length ds ≡ length hs → length (paired ds hs) ≡ 2 * length ds
+unfolding paired
+paired-length [] hs e = refl
+paired-length (d ∷ ds) [] e = absurd (omega arith)
+paired-length (d ∷ ds) (h ∷ hs) e = let k = paired-length ds hs (omega arith) in omega arith
+
+paired-count : (ds hs : List ℕ) → length ds ≡ length hs → stationCount (paired ds hs) ≡ length ds
+paired-count ds hs e = rw (paired-length ds hs e) (wholes-times 2 (length ds) (omega arith))
+
+-- what a call of `read_traverse` tells of a text that is read so
+told-of : (h : Head) (s text : List ℕ) → ReadBack h s text → (t : TraverseReading text) → DeckTold h s t.left
+told-of h s text b t =
+    let told = (traverse-again text t).told in
+    record {
+      distances = b.distances;
+      depths = b.depths;
+      cards-are = b.deck;
+      same = b.same;
+      points = λ e. let x = rw (b.points e) at told in (x.0, x.1 ∙ rw (paired-count b.distances b.depths b.same), ap (λ (z : Traverse). z.head) x.2, ap (λ (z : Traverse). z.points) x.2);
+      count = λ e. rw (b.count e) at told;
+    }
+
+-- the bytes that the answer tells are those that were written
+written-is : (x : LeftDeck) (left : LeftText) (w : WroteText x left) → w.bytes < 2 ^ 63 → textWritten left ≡ take w.bytes x.text
+written-is x left w short = ap textWritten w.left-is ∙ ap (λ (p : ℤ). take (lentPlace p) x.text) (whole-place w.bytes (omega arith))
+
+pub deck-then-traverse : DeckThenTraverse
+unfolding deckCall
+deck-then-traverse h s short d t =
+    let x = convertOf h s d.text in
+    let w : WroteText x d.left = wrote-text x d.text d.answer d.left d.kept d.accepted in
+    let fits = (wrote h s d.text w.bytes w.was).fits in
+    let same = written-is x d.left w (omega (arith, fits, d.small)) in
+    told-of h s (textWritten d.left) (subst (ReadBack h s) (sym same) (deck-is-read h s d.text w.bytes short w.was)) t

@@ -1,0 +1,36 @@
+// Turning an old card deck into the text of `traverse.txt`. Every check and every byte is `deck`'s own.
+ghost use Rattle.lent.specs.Decks.{leftText, ReadsDeck};
+
+use super::numbers::{ANSWER, WRONG_BUFFER, place_number, refuse, store_three};
+use deck::Converted;
+use records::Head;
+
+// The three values are those of the file's second line; `text` is room for the file, whose bytes go to its front. The answer has how many there are.
+// The number of the refusal is returned, 0 where the text is written.
+pub fn read_deck(
+    latitude: i64,
+    friction: i64,
+    initial: i64,
+    deck: &[u8],
+    text: &mut [u8],
+    answer: &mut [i64],
+) -> u64
+    ensures { ReadsDeck latitude friction initial deck.now text.old answer.old (leftText result text.new answer.new) }
+{
+    if answer.len() != ANSWER {
+        return WRONG_BUFFER;
+    }
+    let head = Head {
+        latitude: latitude,
+        friction: friction,
+        initial: initial,
+    };
+    match deck::read_deck(head, deck, text) {
+        Converted::Refused(refusal) => refuse(refusal, answer),
+        Converted::Text(bytes) => {
+            let count = place_number(bytes);
+            store_three(answer, 0, count, 0);
+            0
+        }
+    }
+}
