@@ -1,4 +1,4 @@
-# Refusals 5, 6, 7 and 9: counts and values past document 01's limits. Read by tools/explain.
+# Refusals 5, 6, 7 and 9: counts and values past document 01's limits. Read by tools/explain; the limits themselves by tools/deck too.
 
 # The limits and units of README.md's table, and what usually brings a value past them.
 limits_of() { # VALUE

@@ -1,11 +1,19 @@
-# A line of a file: its bytes, the values in it, and how it is shown with a place marked. Read by tools/explain.
+# A line of a file: its bytes, the values in it, and how it is shown with a place marked. Read by tools/explain and tools/deck.
 #
 # Files may hold any bytes, so a line is kept as a list of numbers, and a value is used in arithmetic only after it was seen to be digits.
 #
 # What is known of the line is shared by all parts: bytes, text, column, values, from, upto, fault, fault_at, fault_last, what, cause. No function may
 # have a local of such a name, since bash hands a caller's locals down to what it calls.
 
-# More bytes of a line than this are never looked at: the longest sound line has 55, so a fault stands before.
+say() {
+    printf '%s\n' "$1" >&2
+}
+
+causes() {
+    say "usual causes: $1"
+}
+
+# More bytes of a line than this are never looked at: the longest sound line has 55, the longest sound card 75, so a fault stands before.
 longest=100
 
 # An ordinary file that opens; a pipe would be emptied, or waited for, by reading it again.

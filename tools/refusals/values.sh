@@ -1,4 +1,4 @@
-# Refusal 2: which byte of a value line breaks the rule, and what usually brings it there. Read by tools/explain; scan_values (lines.sh) found it.
+# Refusal 2: which byte of a value line breaks the rule, and what usually brings it there. Read by tools/explain and tools/deck; scan_values (lines.sh) found it.
 
 form="one space between two, a line feed behind the last; each an optional minus and one to nine digits, no leading zero"
 
