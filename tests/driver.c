@@ -1,9 +1,10 @@
-/* Answers the requests of tests/calls.py and tests/make_calls.py (their heads have the protocol) through the product's libraries:
- * opening a traverse, taking and making a record through libsurge_c.a as any customer's program would, the functions below the march
- * through libprobe.a. `segment` is not exported and is answered `skip`.
+/* Answers the requests of tests/calls.py, tests/make_calls.py and tests/deck_calls.py (their heads have the protocol) through the
+ * product's libraries: opening a traverse, taking and making a record, reading a deck through libsurge_c.a as any customer's program
+ * would, the functions below the march through libprobe.a. `segment` is not exported and is answered `skip`.
  *
- * Every array that is lent stands between two guard numbers, the rows between two guard rows, and arrays that are only read are
- * compared with a copy after the call; a number changed outside of what was lent ends the driver. */
+ * Every array that is lent stands between two guard numbers, the rows between two guard rows, a text between guard bytes, and arrays
+ * that are only read are compared with a copy after the call; a number changed outside of what was lent ends the driver. Behind a deck
+ * is a page that cannot be read. */
 #include <errno.h>
 #include <inttypes.h>
 #include <stdio.h>
@@ -30,8 +31,9 @@ static const fennhop_row GUARD_ROW = {GUARD, GUARD, GUARD};
 static const int64_t *blank;
 static fennhop_row *blank_rows;
 static int64_t *blank_room;
+static uint8_t *blank_text;
 static const size_t BLANK = (size_t)13 << 30; /* numbers: twice and thrice the largest count asked */
-static const size_t OPEN = 1 << 16; /* bytes of rows, and of a room, that can be written */
+static const size_t OPEN = 1 << 16; /* bytes of rows, of a room, and of a text, that can be written */
 
 static char *at; /* the next number of the request */
 
@@ -295,6 +297,119 @@ static void make_record(void)
     putchar('\n');
 }
 
+/* Bytes of a request, and guards beside them. */
+enum { BYTES = 4000000, FIRST_BYTES = 1000, FENCE = 64, FENCE_BYTE = 0x5b };
+
+/* The deck, in front of a page that cannot be read, with a copy of what was lent. */
+static struct {
+    uint8_t copy[BYTES], *end;
+    size_t count;
+} cards;
+
+static int all_fence(const uint8_t *bytes)
+{
+    for (int i = 0; i < FENCE; i++)
+        if (bytes[i] != FENCE_BYTE)
+            return 0;
+    return 1;
+}
+
+/* Two hex digits a byte, `-` for no byte. */
+static void fill_deck(void)
+{
+    static const char hex[] = "0123456789abcdef";
+    at += *at == ' ';
+    cards.count = strspn(at, hex) / 2;
+    if (cards.count > BYTES)
+        fail("a deck of the request is too long for the driver");
+    for (size_t i = 0; i < cards.count; i++)
+        cards.copy[i] = (uint8_t)(16 * (strchr(hex, at[2 * i]) - hex) + (strchr(hex, at[2 * i + 1]) - hex));
+    memcpy(cards.end - cards.count, cards.copy, cards.count);
+    memset(cards.end - cards.count - FENCE, FENCE_BYTE, FENCE);
+}
+
+static void unchanged_deck(void)
+{
+    if (!all_fence(cards.end - cards.count - FENCE))
+        fail("a byte beside the deck was changed");
+    if (memcmp(cards.end - cards.count, cards.copy, cards.count))
+        fail("the deck was changed");
+}
+
+static uint8_t text_space[FENCE + BYTES + FENCE];
+
+/* Room for a text: bytes that no text has; above 4,000,000 blank pages. */
+static uint8_t *lend_text(size_t count)
+{
+    if (count > BYTES) {
+        if (count > BLANK * sizeof(int64_t))
+            fail("a count of bytes is larger than the driver's blank pages");
+        return blank_text;
+    }
+    memset(text_space, FENCE_BYTE, FENCE);
+    memset(text_space + FENCE + count, FENCE_BYTE, FENCE);
+    for (size_t i = 0; i < count; i++)
+        text_space[FENCE + i] = (uint8_t)(151 + i % 97);
+    return count ? text_space + FENCE : NULL;
+}
+
+/* The text as the call left it; of blank pages the first bytes, behind which nothing was written. */
+static void write_text(const uint8_t *text, size_t count)
+{
+    if (text == blank_text) {
+        for (size_t i = FIRST_BYTES; i < OPEN; i++)
+            if (text[i])
+                fail("a byte far behind what is written was changed");
+        count = FIRST_BYTES;
+    } else if (!all_fence(text_space) || !all_fence(text_space + FENCE + count)) {
+        fail("a byte beside the text was changed");
+    }
+    putchar(' ');
+    if (count == 0)
+        putchar('-');
+    for (size_t i = 0; i < count; i++) {
+        putchar("0123456789abcdef"[text[i] >> 4]);
+        putchar("0123456789abcdef"[text[i] & 15]);
+    }
+}
+
+/* What reading the text of a traverse answers, and where it is accepted head and points. */
+static void read_back(const uint8_t *text, size_t count)
+{
+    int64_t head[FENNHOP_HEAD], points_read[FENNHOP_READ_POINTS], told[FENNHOP_ANSWER];
+    uint64_t n = fennhop_read_traverse(text, count, head, FENNHOP_HEAD, points_read, FENNHOP_READ_POINTS, told, FENNHOP_ANSWER);
+    printf(" %" PRIu64 " %" PRId64 " %" PRId64 " %" PRId64, n, told[0], told[1], told[2]);
+    for (int i = 0; n == 0 && i < FENNHOP_HEAD; i++)
+        printf(" %" PRId64, head[i]);
+    for (int i = 0; n == 0 && i < FENNHOP_POINTS_STRIDE * told[1]; i++)
+        printf(" %" PRId64, points_read[i]);
+}
+
+static void read_deck(void)
+{
+    int64_t latitude = number(), friction = number(), initial = number();
+    size_t room_count = (size_t)number();
+    uint8_t *text = lend_text(room_count);
+    fill(&answer, (size_t)number());
+    fill_deck();
+    uint64_t n = fennhop_read_deck(latitude, friction, initial, cards.count ? cards.end - cards.count : NULL, cards.count, text,
+                                   room_count, lend(&answer), answer.count);
+    unchanged_deck();
+    guarded(&answer);
+    printf("%" PRIu64, n);
+    write_all(&answer);
+    write_text(text, room_count);
+    if (n == 0) {
+        size_t count = (size_t)answer.numbers[1];
+        if (count > room_count || (text == blank_text && count > OPEN))
+            fail("a text longer than its room");
+        read_back(text, count);
+    }
+    putchar('\n');
+    if (text == blank_text)
+        memset(text, 0, FIRST_BYTES);
+}
+
 static void write_pair(const int64_t *r)
 {
     printf("%" PRId64 " %" PRId64 "\n", r[0], r[1]);
@@ -347,6 +462,8 @@ static void request(char *text)
         open_traverse();
     else if (!strcmp(word, "make"))
         make_record();
+    else if (!strcmp(word, "deck"))
+        read_deck();
     else if (!strcmp(word, "force"))
         force();
     else if (!strcmp(word, "flux"))
@@ -374,6 +491,16 @@ static void *zeros(void)
     return pages;
 }
 
+/* The end of pages for a deck, the last of which cannot be read. */
+static uint8_t *deck_pages(void)
+{
+    const size_t page = 1 << 16, size = BYTES / page * page + 2 * page;
+    uint8_t *pages = mmap(NULL, size + page, PROT_READ | PROT_WRITE, MAP_PRIVATE | MAP_ANONYMOUS, -1, 0);
+    if (pages == MAP_FAILED || mprotect(pages + size, page, PROT_NONE))
+        fail("no pages for a deck");
+    return pages + size;
+}
+
 int main(void)
 {
     static char in[1 << 20], out[1 << 20];
@@ -384,8 +511,11 @@ int main(void)
     blank = zeros();
     blank_rows = zeros();
     blank_room = zeros();
-    if (mprotect(blank_rows, OPEN, PROT_READ | PROT_WRITE) || mprotect(blank_room, OPEN, PROT_READ | PROT_WRITE))
-        fail("no blank rows or room");
+    blank_text = zeros();
+    if (mprotect(blank_rows, OPEN, PROT_READ | PROT_WRITE) || mprotect(blank_room, OPEN, PROT_READ | PROT_WRITE) ||
+        mprotect(blank_text, OPEN, PROT_READ | PROT_WRITE))
+        fail("no blank rows, room or text");
+    cards.end = deck_pages();
     while (getline(&text, &size, stdin) > 0)
         request(text);
     if (ferror(stdin) || fflush(stdout))

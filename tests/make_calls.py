@@ -68,10 +68,8 @@ def expected(call):
     return line(number, len(answer), *answer, len(call.room), *room)
 
 
-def calls_of(kind, cases, rng):
-    if kind == "random":
-        return hurricanes.random_calls(rng, cases)
-    return hurricanes.FIXED[kind](rng)
+def asked(call):
+    return request(call), expected(call)
 
 
 def judge(kind, wanted, answers, shown):
@@ -88,8 +86,10 @@ def judge(kind, wanted, answers, shown):
     return failed
 
 
-def main(arguments):
-    kinds = (*hurricanes.FIXED, "random")
+def compare(word, lists, ask, outcomes, arguments):
+    """Compares the calls of a generator, FIXED and random_calls, and has all the
+    outcomes occur. ask: request and answer of a call."""
+    kinds = (*lists.FIXED, "random")
     parser = argparse.ArgumentParser()
     parser.add_argument("driver")
     parser.add_argument("cases", type=int)
@@ -100,9 +100,12 @@ def main(arguments):
     numbers = collections.Counter()
     for kind in arguments.only.split(","):
         started = time.time()
-        rng = random.Random("make %s %d" % (kind, arguments.seed))
-        calls = calls_of(kind, arguments.cases, rng)
-        wanted = [(request(call), expected(call)) for call in calls]
+        rng = random.Random("%s %s %d" % (word, kind, arguments.seed))
+        if kind == "random":
+            calls = lists.random_calls(rng, arguments.cases)
+        else:
+            calls = lists.FIXED[kind](rng)
+        wanted = [ask(call) for call in calls]
         bad = judge(kind, wanted, run_driver(arguments.driver, wanted), failed)
         shown = (kind, len(wanted), bad, time.time() - started)
         print("%-8s %6d requests, %d failed, %.1f seconds" % shown)
@@ -110,11 +113,15 @@ def main(arguments):
         made += len(wanted)
         failed += bad
     print("         outcomes", " ".join("%d:%d" % pair for pair in sorted(numbers.items())))
-    lacking = [n for n in OUTCOMES if not numbers[n]]
+    lacking = [n for n in outcomes if not numbers[n]]
     if lacking:
         print("         no call has outcome", *lacking)
     print("%d passed, %d failed" % (made - failed, failed))
     return 1 if failed or lacking else 0
+
+
+def main(arguments):
+    return compare("make", hurricanes, asked, OUTCOMES, arguments)
 
 
 if __name__ == "__main__":

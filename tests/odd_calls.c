@@ -1,6 +1,6 @@
 /* Calls of the library that only a program in another language can make: counts that are no multiple of a point, any count of rows, a
- * `state` or `answer` of another length, no numbers at all, the ends of int64_t, arrays at the end of what can be read. Every array
- * lies between guard numbers and is compared with a copy. */
+ * `state` or `answer` of another length, no numbers at all, the ends of int64_t, arrays and decks at the end of what can be read. Every
+ * array lies between guard numbers, a text between guard bytes, and is compared with a copy. */
 #include <inttypes.h>
 #include <stddef.h>
 #include <stdio.h>
@@ -11,6 +11,7 @@
 
 enum { ROOM = 512, STATE = 0, SETUP, ANSWER, STORM, NUMBERS, MANY = FENNHOP_MOST_SEGMENTS };
 static const int64_t GUARD = INT64_C(0x5bd1e995a5a5a5a5);
+enum { GUARD_BYTE = 0xa5 };
 
 /* document 01's listing storm, two points */
 static const int64_t points[] = {10, 500, 0, 500, 0, 0, 0, 0};
@@ -20,6 +21,10 @@ static const int64_t winds[] = {400, 1000, 701, 700, 900, 500, 901, 0, 950};
 static const int64_t sites[] = {0, 0, 900, 401, 0, 1800, 0, -401, 3599};
 /* what is made of them with R 401 and a drop of 300: wind, angle, deficit */
 static const int64_t record_made[] = {1000, 900, 300, 999, 1800, 189, 999, 3599, 189};
+/* a deck of that storm's traverse, three cards, and the text that is written of it */
+static const char deck[] = "DIST 1 1 .0\nDEPTH 01 50.\nDEPTH 2 00050.00\n";
+static const char deck_text[] = "latitude friction initial\n300 25 0\ndistance depth\n10 500\n0 500\n";
+enum { DECK = sizeof deck - 1, DECK_TEXT = sizeof deck_text - 1 };
 /* a traverse and a record of the most points */
 static int64_t long_points[2 * FENNHOP_MOST_POINTS], long_first[3 * FENNHOP_MOST_POINTS];
 
@@ -29,12 +34,15 @@ static int64_t *const state = space[STATE] + 1, *const setup = space[SETUP] + 1,
 static int64_t *const storm = space[STORM] + 1;
 static fennhop_row row_space[ROOM], rows_were[ROOM];
 static fennhop_row *const rows = row_space + 1;
+static uint8_t byte_space[ROOM], bytes_were[ROOM];
+static uint8_t *const text = byte_space + 1;
 
 /* Takes a copy of all that is lent. */
 static void keep(void)
 {
     memcpy(was, space, sizeof was);
     memcpy(rows_were, row_space, sizeof rows_were);
+    memcpy(bytes_were, byte_space, sizeof bytes_were);
 }
 
 /* A fresh state, so many fresh rows, and guards in all other places. */
@@ -44,6 +52,7 @@ static void prepare(size_t fresh)
         for (int a = 0; a < NUMBERS; a++)
             space[a][i] = GUARD;
         row_space[i] = (fennhop_row){GUARD, GUARD, GUARD};
+        byte_space[i] = GUARD_BYTE;
     }
     state[0] = state[1] = 0;
     for (size_t i = 0; i < fresh; i++)
@@ -73,17 +82,23 @@ static int same_rows(int count)
     return 1;
 }
 
+/* All but the first `count` bytes of the text are as they were. */
+static int same_text(size_t count)
+{
+    return byte_space[0] == bytes_were[0] && !memcmp(byte_space + 1 + count, bytes_were + 1 + count, ROOM - 1 - count);
+}
+
 /* A refusal: number and place, and nothing changed but the answer's three numbers. */
 static void refused(const char *what, uint64_t got, uint64_t number, int64_t place)
 {
     expect(what, got == number && answer[0] == place && answer[1] == 0 && answer[2] == 0);
-    expect(what, same(STATE, 0) && same_rows(0) && same(SETUP, 0) && same(STORM, 0) && same(ANSWER, FENNHOP_ANSWER));
+    expect(what, same(STATE, 0) && same_rows(0) && same(SETUP, 0) && same(STORM, 0) && same_text(0) && same(ANSWER, FENNHOP_ANSWER));
 }
 
 static void untouched(const char *what, uint64_t got)
 {
     expect(what, got == FENNHOP_WRONG_BUFFER);
-    expect(what, same(STATE, 0) && same_rows(0) && same(SETUP, 0) && same(STORM, 0) && same(ANSWER, 0));
+    expect(what, same(STATE, 0) && same_rows(0) && same(SETUP, 0) && same(STORM, 0) && same_text(0) && same(ANSWER, 0));
 }
 
 static uint64_t take(size_t points_count, size_t storm_count, size_t state_count, size_t rows_count, size_t setup_count,
@@ -116,6 +131,13 @@ static uint64_t make(size_t winds_count, size_t sites_count, size_t storm_count,
                                sites_count, storm_count ? storm : NULL, storm_count, answer_count ? answer : NULL, answer_count);
 }
 
+static uint64_t read_deck(size_t deck_count, size_t text_count, size_t answer_count)
+{
+    prepare(0);
+    return fennhop_read_deck(300, 25, 0, deck_count ? (const uint8_t *)deck : NULL, deck_count, text_count ? text : NULL, text_count,
+                             answer_count ? answer : NULL, answer_count);
+}
+
 /* What the header says of itself and of a row. */
 static void header(void)
 {
@@ -129,6 +151,8 @@ static void header(void)
     expect("the strides and limits of making a record", FENNHOP_WINDS_STRIDE == 2 && FENNHOP_SITES_STRIDE == 3 &&
                                                             FENNHOP_STORM_STRIDE == 3 && FENNHOP_MOST_WINDS == 50);
     expect("the refusals of making a record", FENNHOP_REFUSED_STORM_VALUE == 13 && FENNHOP_REFUSED_WIND_RADII == 14);
+    expect("the refusals of reading a deck", FENNHOP_REFUSED_CARD_ORDER == 15 && FENNHOP_REFUSED_CARD_UNIT == 16 &&
+                                                 FENNHOP_REFUSED_CARD_COUNTS == 17);
     expect("the lengths for the most points", FENNHOP_READ_POINTS == FENNHOP_POINTS_STRIDE * FENNHOP_MOST_POINTS &&
                                                   FENNHOP_READ_STORM == FENNHOP_STORM_STRIDE * FENNHOP_MOST_POINTS);
 }
@@ -314,8 +338,8 @@ static void make_ends(void)
     }
 }
 
-/* `count` numbers of an array behind which nothing can be read, and which cannot be written. */
-static int64_t *fenced(const int64_t *numbers, size_t count)
+/* A copy of so many bytes, behind which nothing can be read, and which cannot be written but where `rights` say so. */
+static void *fenced_bytes(const void *bytes, size_t count, int rights)
 {
     const size_t page = 1 << 16;
     char *pages = mmap(NULL, 2 * page, PROT_READ | PROT_WRITE, MAP_PRIVATE | MAP_ANONYMOUS, -1, 0);
@@ -323,11 +347,17 @@ static int64_t *fenced(const int64_t *numbers, size_t count)
         expect("fenced pages", 0);
         return NULL;
     }
-    int64_t *first_number = (int64_t *)(pages + page) - count;
-    memcpy(first_number, numbers, count * sizeof(int64_t));
-    mprotect(pages, page, PROT_READ);
+    char *first_byte = pages + page - count;
+    memcpy(first_byte, bytes, count);
+    mprotect(pages, page, rights);
     mprotect(pages + page, page, PROT_NONE);
-    return first_number;
+    return first_byte;
+}
+
+/* `count` numbers of an array behind which nothing can be read, and which cannot be written. */
+static int64_t *fenced(const int64_t *numbers, size_t count)
+{
+    return fenced_bytes(numbers, count * sizeof(int64_t), PROT_READ);
 }
 
 /* Nothing is read behind an array, and a refused call writes no room: memory that cannot be written will do. */
@@ -351,6 +381,123 @@ static void make_fenced(void)
     untouched("an answer too short, fenced", fennhop_make_record(2800, 3100, 401, 0, 0, 7, 8, list, 4, place, 6, shut, 6, answer, 2));
 }
 
+/* The deck's text, at the front of what was lent for it. */
+static void is_written(const char *what, uint64_t got)
+{
+    expect(what, got == 0 && answer[0] == 0 && answer[1] == DECK_TEXT && answer[2] == 0);
+    expect(what, !memcmp(text, deck_text, DECK_TEXT));
+    expect(what, same(STATE, 0) && same_rows(0) && same(SETUP, 0) && same(STORM, 0));
+    expect(what, same_text(DECK_TEXT) && same(ANSWER, FENNHOP_ANSWER));
+}
+
+/* Every beginning of a deck, with and without room; every room; answers of another length; and none of it. */
+static void deck_counts(void)
+{
+    static const size_t rooms[] = {0, DECK_TEXT, ROOM - 2};
+    for (int r = 0; r < 3; r++) {
+        int64_t line = 1;
+        refused("no deck", read_deck(0, rooms[r], 3), FENNHOP_REFUSED_ENDED, 0);
+        for (size_t n = 1; n < DECK; n++) {
+            if (deck[n - 1] == '\n') {
+                refused("distances and depths of other counts", read_deck(n, rooms[r], 3), FENNHOP_REFUSED_CARD_COUNTS, 2);
+                line++;
+            } else {
+                refused("a deck that ends inside a card", read_deck(n, rooms[r], 3), FENNHOP_REFUSED_MALFORMED, line);
+            }
+        }
+    }
+    for (size_t n = 0; n < ROOM - 1; n++)
+        if (n < DECK_TEXT)
+            refused("room for a text", read_deck(DECK, n, 3), FENNHOP_REFUSED_LENT, 0);
+        else
+            is_written("a text", read_deck(DECK, n, 3));
+    for (size_t n = 0; n < 9; n++)
+        if (n != 3) {
+            untouched("an answer of another length, deck", read_deck(DECK, ROOM - 2, n));
+            untouched("an answer of another length, no deck", read_deck(0, 0, n));
+        }
+}
+
+/* The ends of int64_t in each given value, whatever the deck. */
+static void deck_ends(void)
+{
+    for (int e = 0; e < 2; e++)
+        for (int i = 0; i < 3; i++) {
+            int64_t given[3] = {300, 25, 0};
+            given[i] = end[e];
+            prepare(0);
+            uint64_t n = fennhop_read_deck(given[0], given[1], given[2], (const uint8_t *)deck, DECK, text, ROOM - 2, answer, 3);
+            refused("an end of int64_t, deck", n, FENNHOP_REFUSED_TRAVERSE_VALUE, 0);
+            n = fennhop_read_deck(given[0], given[1], given[2], NULL, 0, NULL, 0, answer, 3);
+            refused("an end of int64_t, no deck", n, FENNHOP_REFUSED_TRAVERSE_VALUE, 0);
+            prepare(0);
+            untouched("an end of int64_t, no answer", fennhop_read_deck(given[0], given[1], given[2], NULL, 0, NULL, 0, NULL, 0));
+        }
+}
+
+/* A deck that is refused, behind which nothing can be read, into a room that cannot be written. */
+static void deck_refused(const char *cards, uint64_t number, int64_t place)
+{
+    const uint8_t *lent = fenced_bytes(cards, strlen(cards), PROT_READ);
+    uint8_t *shut = fenced_bytes(deck_text, DECK_TEXT, PROT_READ);
+    if (!lent || !shut)
+        return;
+    prepare(0);
+    refused(cards, fennhop_read_deck(300, 25, 0, lent, strlen(cards), shut, DECK_TEXT, answer, 3), number, place);
+}
+
+/* Nothing is read behind a deck nor written behind the room, and a refused call writes no text: memory that cannot be written will do. */
+static void deck_fenced(void)
+{
+    const uint8_t *cards = fenced_bytes(deck, DECK, PROT_READ);
+    uint8_t *open_room = fenced_bytes(record_made, DECK_TEXT, PROT_READ | PROT_WRITE);
+    uint8_t *shut = fenced_bytes(deck_text, DECK_TEXT, PROT_READ);
+    if (!cards || !open_room || !shut)
+        return;
+    prepare(0);
+    uint64_t n = fennhop_read_deck(300, 25, 0, cards, DECK, open_room, DECK_TEXT, answer, 3);
+    expect("fenced deck and room", n == 0 && answer[1] == DECK_TEXT && !memcmp(open_room, deck_text, DECK_TEXT));
+    expect("fenced deck and room", same_text(0) && same(ANSWER, FENNHOP_ANSWER));
+    prepare(0);
+    refused("a room that cannot be written, latitude", fennhop_read_deck(901, 25, 0, cards, DECK, shut, DECK_TEXT, answer, 3),
+            FENNHOP_REFUSED_TRAVERSE_VALUE, 0);
+    refused("a room that cannot be written, no deck", fennhop_read_deck(300, 25, 0, NULL, 0, shut, DECK_TEXT, answer, 3),
+            FENNHOP_REFUSED_ENDED, 0);
+    refused("a short room that cannot be written, deck", fennhop_read_deck(300, 25, 0, cards, DECK, shut + 1, DECK_TEXT - 1, answer, 3),
+            FENNHOP_REFUSED_LENT, 0);
+    prepare(0);
+    untouched("an answer too short, fenced deck", fennhop_read_deck(300, 25, 0, cards, DECK, shut, DECK_TEXT, answer, 2));
+    deck_refused("\n", FENNHOP_REFUSED_MALFORMED, 1);
+    deck_refused("DIST", FENNHOP_REFUSED_MALFORMED, 1);
+    deck_refused("DIST 1 1 0\nDEPTH 1 50 50", FENNHOP_REFUSED_MALFORMED, 2);
+    deck_refused("DIST 1 1 0\nDEPTH 1 50 50 \n", FENNHOP_REFUSED_MALFORMED, 2);
+    deck_refused("DIST 1 1 0\nDEPTH 1 50 50\n\n", FENNHOP_REFUSED_MALFORMED, 3);
+    deck_refused("DIST 1 1 0\nDEPTH 2 50 50\n", FENNHOP_REFUSED_CARD_ORDER, 2);
+    deck_refused("DIST 1 1 0\nDEPTH 1 50\nDIST 2 50\n", FENNHOP_REFUSED_CARD_ORDER, 3);
+    deck_refused("DIST 1 1 0\nDEPTH 1 50 50.05\n", FENNHOP_REFUSED_CARD_UNIT, 2);
+    deck_refused("DIST 1 1 0\nDEPTH 1 50\n", FENNHOP_REFUSED_CARD_COUNTS, 2);
+    deck_refused("DEPTH 1 50\n", FENNHOP_REFUSED_CARD_COUNTS, 0);
+}
+
+/* A deck longer than 32 bits can count, whose first line is faulty from its first byte on. */
+static void very_long_deck(void)
+{
+    const size_t most = ((size_t)1 << 32) + DECK;
+    uint8_t *bytes = mmap(NULL, most, PROT_READ | PROT_WRITE, MAP_PRIVATE | MAP_ANONYMOUS | MAP_NORESERVE, -1, 0);
+    if (bytes == MAP_FAILED) {
+        expect("pages for a deck", 0);
+        return;
+    }
+    bytes[0] = ' ';
+    static const size_t counts[] = {1, (size_t)1 << 31, (size_t)1 << 32, ((size_t)1 << 32) + DECK};
+    for (int i = 0; i < 4; i++) {
+        prepare(0);
+        uint64_t n = fennhop_read_deck(300, 25, 0, bytes, counts[i], text, ROOM - 2, answer, 3);
+        refused("a very long deck", n, FENNHOP_REFUSED_MALFORMED, 1);
+    }
+    munmap(bytes, most);
+}
+
 int main(void)
 {
     for (int i = 0; i < FENNHOP_MOST_POINTS; i++) {
@@ -370,5 +517,9 @@ int main(void)
     make_counts();
     make_ends();
     make_fenced();
+    deck_counts();
+    deck_ends();
+    deck_fenced();
+    very_long_deck();
     return summary();
 }

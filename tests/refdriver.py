@@ -1,11 +1,12 @@
-# A driver in Python for the protocol of calls.py and make_calls.py: it answers
-# from the model, its fast path for the march. It shows how the protocol is read
-# and lets both be tried without the product.
+# A driver in Python for the protocol of calls.py, make_calls.py and deck_calls.py:
+# it answers from the model, its fast path for the march. It shows how the protocol
+# is read and lets all three be tried without the product.
 
 import sys
 
+import deck_calls
 import make_calls
-from gen.hurricanes import Call
+from gen import decks, hurricanes
 from model import fast, forcing, march
 from model.sine import cosine, sine
 
@@ -14,12 +15,15 @@ class Numbers:
     """The numbers of a request, taken one after another."""
 
     def __init__(self, words):
-        self.values = [int(word) for word in words]
+        self.words = words
         self.place = 0
 
-    def one(self):
+    def word(self):
         self.place += 1
-        return self.values[self.place - 1]
+        return self.words[self.place - 1]
+
+    def one(self):
+        return int(self.word())
 
     def some(self, count):
         return tuple(self.one() for _ in range(count))
@@ -83,8 +87,15 @@ def record(numbers):
 
 
 def make(numbers):
-    call = Call(*numbers.some(7), *(numbers.array() for _ in range(4)))
+    call = hurricanes.Call(*numbers.some(7), *(numbers.array() for _ in range(4)))
     return [make_calls.expected(call)]
+
+
+def read_deck(numbers):
+    given, answer = numbers.some(4), numbers.array()
+    text = numbers.word()
+    call = decks.Call(*given, answer, b"" if text == "-" else bytes.fromhex(text))
+    return [deck_calls.asked(call)[1]]
 
 
 CALLS = {
@@ -99,6 +110,7 @@ CALLS = {
     "open": open_traverse,
     "record": record,
     "make": make,
+    "deck": read_deck,
 }
 
 

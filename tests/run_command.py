@@ -354,6 +354,7 @@ def test_setup(root, path):
     check("setup run installs nothing", done.returncode == 0 and not calls and not done.stderr, done, calls)
     for task, packages in (
         ("test", ("python3", "gcc", "libc6-dev", "gfortran", "g++", "gnuplot-nox")), ("plot", ("gnuplot-nox",)),
+        ("deck", ("gcc", "libc6-dev")),
         ("bench", ("python3", "gcc", "libc6-dev", "gfortran", "valgrind")),
     ):
         done, calls = called(task)

@@ -1,8 +1,8 @@
 # Tests of the model and of the generators: document 01's reference runs, the
 # readings of its text, the exact march within every range, ranges against a
 # dense sample of fractions, and the fast path against the fractions; document
-# 02's storm maker by numbers worked out by hand, and its coefficient by those
-# that TM-35 prints.
+# 02's storm maker and its decks by numbers worked out by hand, and its coefficient
+# by those that TM-35 prints.
 #
 #   python3 selftest.py        the last line is `N passed, M failed`
 
@@ -18,9 +18,10 @@ from fractions import Fraction
 from unittest import mock
 
 import calls
+import deck_calls
 import make_calls
-from gen import cases, damage, edges, hurricanes, values
-from model import exact, fast, forcing, hurricane, march, program, ranges, reader, refread
+from gen import cases, damage, decks, edges, hurricanes, values
+from model import deck, exact, fast, forcing, hurricane, march, program, ranges, reader, refread
 from model.sine import TABLE, cosine, sine
 
 
@@ -604,7 +605,8 @@ def test_driver_answers():
     here = os.path.dirname(os.path.abspath(__file__))
     driver = "%s %s" % (sys.executable, os.path.join(here, "refdriver.py"))
     only = "--only=limit,room,answer,random"
-    for tool in (["calls.py"], ["make_calls.py", only]):
+    decks_only = "--only=answer,fault,random"
+    for tool in (["calls.py"], ["make_calls.py", only], ["deck_calls.py", decks_only]):
         command = [sys.executable, os.path.join(here, tool[0]), driver, "300", "2", *tool[1:]]
         same(subprocess.run(command, stdout=subprocess.DEVNULL).returncode, 0)
         command[2] = driver + " | sed s/5/6/"
@@ -812,6 +814,497 @@ def test_hurricane_listing():
     same(hurricane.listing(traverse, bad), begun + b"refused 13 0\n")
     same(hurricane.listing(traverse._replace(friction=51), late), b"refused 6 0\n")
     same(hurricane.listing(traverse, []), NAMES)
+
+
+# The decks of document 02, by hand from its readings.
+
+GIVEN = (300, 25, 0)
+
+
+def deck_outcome(text, head=GIVEN, room=1000):
+    """The points of a deck, or the refusal's number and place."""
+    made = deck.convert(head, text, room)
+    if isinstance(made, march.Refusal):
+        return tuple(made)
+    read = reader.read_traverse(made)
+    same((read[:3], deck.traverse_text(head, read.points)), (head, made))
+    return list(read.points)
+
+
+# Number: its tenths, or the number of the refusal of its line.
+DECK_NUMBERS = {b"1": 10, b"640": 6400, b"0": 0, b"00": 0, b"0.0": 0, b".0": 0, b"0.": 0}
+DECK_NUMBERS.update({b".5": 5, b"5.": 50, b"0.5": 5, b"05": 50, b"00012.50": 125, b"20.10": 201})
+DECK_NUMBERS.update({b"99999999": 999_999_990, b"99999999.": 999_999_990, b"9999999.9": 99_999_999})
+DECK_NUMBERS.update({b"00000000": 0, b".00000000": 0, b"1.0000000": 10, b".50000000": 5})
+DECK_PARTS = b".05", b"0.05", b"1.25", b"20.11", b"1.0000001", b".00000001", b"00.99999"
+DECK_SHAPES = (
+    b"", b".", b"..", b"1.2.3", b"1..2", b".1.", b"123456789", b"000000000", b"12345678.9",
+    b"1.00000000", b".123456789", b"-5", b"-0", b"+5", b"1,5", b"5e1", b"5\r", b"\t5", b"5\x00", b"\xb2",
+)  # fmt: skip
+
+
+def test_deck_numbers():
+    """Each as a distance and as a depth, alone on its card, first and last."""
+    wanted = [(number, tenths) for number, tenths in DECK_NUMBERS.items()]
+    for number, tenths in wanted:
+        same(deck_outcome(b"DIST 1 %s\nDEPTH 1 2\n" % number), [(tenths, 20)])
+        same(deck_outcome(b"DIST 1 2\nDEPTH 1 %s\n" % number), [(20, tenths)])
+        text = b"DIST 1 %s 3 %s\nDEPTH 1 4 %s\nDEPTH 2 %s\n" % ((number,) * 4)
+        same(deck_outcome(text), [(tenths, 40), (30, tenths), (tenths, tenths)])
+    for refusal, numbers in ((2, DECK_SHAPES), (16, DECK_PARTS)):
+        for number in numbers:
+            same((number, deck_outcome(b"DIST 1 %s\nDEPTH 1 2\n" % number)), (number, (refusal, 1)))
+            same(deck_outcome(b"DIST 1 2\nDEPTH 1 %s\n" % number), (refusal, 2))
+            same(deck_outcome(b"DIST 1 2 %s 3\nDEPTH 1 2\n" % number), (refusal, 1))
+            same(deck_outcome(b"DIST 1 2 3\nDEPTH 1 2\nDEPTH 2 %s\n" % number), (refusal, 3))
+
+
+SHORE = b"DEPTH 1 2\n"
+TWO = b"DIST 1 5\nDIST 2 4\n"
+# Deck, and its points or the refusal's number and place.
+DECKS = (
+    # texts without a card
+    (b"", (3, 0)),
+    (b"\n", (2, 1)),
+    (b" ", (2, 1)),
+    (b"DIST", (2, 1)),
+    (b"\x00\n", (2, 1)),
+    # the last line feed
+    (b"DIST 1 5\nDEPTH 1 2", (2, 2)),
+    (b"DIST 1 5\n" + SHORE + b"\n", (2, 3)),
+    (b"DIST 1 5\r\n" + SHORE, (2, 1)),
+    (b"DIST 1 5\r", (2, 1)),
+    (b"DIST 1 5\n\nDEPTH 1 2\n", (2, 2)),
+    # cards in their order
+    (b"DIST 1 5\n" + SHORE, [(50, 20)]),
+    (b"DIST 1 5 0\nDEPTH 1 50 40.5\n", [(50, 500), (0, 405)]),
+    (TWO + b"DEPTH 1 2 3\n", [(50, 20), (40, 30)]),
+    (b"DIST 1 5 4\nDEPTH 1 2\nDEPTH 2 3\n", [(50, 20), (40, 30)]),
+    (b"DIST 1 6 5 4 3 2 1\nDIST 2 0\n" + b"DEPTH 1 1\nDEPTH 2 2 3 4 5 6\nDEPTH 3 7\n",
+     [(60, 10), (50, 20), (40, 30), (30, 40), (20, 50), (10, 60), (0, 70)]),
+    # one point, and more than the ordinary reader takes
+    (b"DIST 1 0\nDEPTH 1 0\n", [(0, 0)]),
+    (b"".join(b"%s %d 1 1 1 1 1 1\n" % (word, n) for word in (b"DIST", b"DEPTH") for n in range(1, 12)),
+     [(10, 10)] * 66),
+    # card numbers
+    (b"DIST 00000001 5\nDEPTH 01 2\n", [(50, 20)]),
+    (b"DIST 000000001 5\n" + SHORE, (2, 1)),
+    (b"DIST 0 5\n" + SHORE, (15, 1)),
+    (b"DIST 00 5\n" + SHORE, (15, 1)),
+    (b"DIST 2 5\n" + SHORE, (15, 1)),
+    (b"DIST 1. 5\n" + SHORE, (2, 1)),
+    (b"DIST -1 5\n" + SHORE, (2, 1)),
+    (b"DIST 1 5\nDIST 1 4\n" + SHORE, (15, 2)),
+    (b"DIST 1 5\nDIST 3 4\n" + SHORE, (15, 2)),
+    (b"DIST 1 5\nDEPTH 2 2\n", (15, 2)),
+    (TWO + b"DEPTH 3 2 3\n", (15, 3)),
+    (b"DIST 1 5 4\nDEPTH 1 2\nDEPTH 1 3\n", (15, 3)),
+    (b"DIST 99999999 5\n" + SHORE, (15, 1)),
+    # words
+    (b"DEPTH 1 2\n", (17, 0)),
+    (b"DEPTH 2 2\n", (15, 1)),
+    (b"DEPTH 1 2\nDIST 1 5\n", (15, 2)),
+    (b"DIST 1 5\nDEPTH 1 2\nDIST 2 4\n", (15, 3)),
+    (b"DIST 1 5\nDEPTH 1 2\nDIST 1 4\n", (15, 3)),
+    (b"DIST 1 5\nDEPTH 1 2\nDIST 2 4\nDEPTH 2 3\n", (15, 3)),
+    (b"dist 1 5\n" + SHORE, (15, 1)),
+    (b"DISTANCE 1 5\n" + SHORE, (15, 1)),
+    (b"DIS 1 5\n" + SHORE, (15, 1)),
+    (b"DIST\x00 1 5\n" + SHORE, (15, 1)),
+    (b"DIST\t 1 5\n" + SHORE, (15, 1)),
+    (b"DIST\r 1 5\n" + SHORE, (15, 1)),
+    (b"-DIST 1 5\n" + SHORE, (15, 1)),
+    (b"1 1 5\n" + SHORE, (15, 1)),
+    (b"DIST 1 5\nDEPTHS 1 2\n", (15, 2)),
+    (b"DIST 1 5\nWIND 1 2\n", (15, 2)),
+    # lines
+    (b" 1 5\n" + SHORE, (2, 1)),
+    (b" DIST 1 5\n" + SHORE, (2, 1)),
+    (b"DIST  1 5\n" + SHORE, (2, 1)),
+    (b"DIST 1  5\n" + SHORE, (2, 1)),
+    (b"DIST 1 5 \n" + SHORE, (2, 1)),
+    (b"DIST\t1 5\n" + SHORE, (2, 1)),
+    (b"DIST 1\t5\n" + SHORE, (2, 1)),
+    (b"DIST 1 5\t\n" + SHORE, (2, 1)),
+    (b"DIST 1\n" + SHORE, (2, 1)),
+    (b"DIST 1 \n" + SHORE, (2, 1)),
+    (b"DIST\n" + SHORE, (2, 1)),
+    (b"DIST 1 6 5 4 3 2 1\nDEPTH 1 6 5 4 3 2 1\n", [(10 * n, 10 * n) for n in (6, 5, 4, 3, 2, 1)]),
+    (b"DIST 1 6 5 4 3 2 1 0\nDEPTH 1 6 5 4 3 2 1\nDEPTH 2 0\n", (2, 1)),
+    # two faults: within a line 2, 15, 16; of two lines the earlier one
+    (b"DUST 1 5.05 \n" + SHORE, (2, 1)),
+    (b"DUST 1 5.05\n" + SHORE, (15, 1)),
+    (b"DIST 2 5.05\n" + SHORE, (15, 1)),
+    (b"DIST 0 -5\n" + SHORE, (2, 1)),
+    (b"DIST 1 5.05 -5\n" + SHORE, (2, 1)),
+    (b"DIST 1 5.05\nDUST 2 4\nDIST 3\n", (16, 1)),
+    (b"DUST 1 5\nDIST 2\n", (15, 1)),
+    (b"DIST 1 5.05\nDEPTH 1 2", (16, 1)),
+    (b"DIST 1 5\nDIST 2 4.05\nDEPTH 1 \n", (16, 2)),
+    (b"DUST 1 5", (2, 1)),
+    # counts, which come last
+    (b"DIST 1 5 4 3\n" + SHORE, (17, 3)),
+    (b"DIST 1 5\nDEPTH 1 2 3\n", (17, 1)),
+    (b"DIST 1 5 4\n", (17, 2)),
+    (TWO, (17, 2)),
+    (b"DIST 1 5 4\nDEPTH 1 2.05\n", (16, 2)),
+    (b"DIST 1 5 4\nDEPTH 1 2 \n", (2, 2)),
+    (b"".join(b"DIST %d 5 4 3 2 1 0\n" % n for n in range(1, 12)), (17, 66)),
+    (b"".join(b"DIST %d 6 5 4 3 2 1\n" % n for n in range(1, 12)) + SHORE, (17, 66)),
+)  # fmt: skip
+
+DECK = b"DIST 1 1 0\nDEPTH 1 50 50.\n"
+DECK_TEXT = b"latitude friction initial\n300 25 0\ndistance depth\n10 500\n0 500\n"
+# Deck, given values, bytes of room, and what comes of them: the given values come
+# first and the room last.
+DECK_CALLS = (
+    (DECK, GIVEN, 1000, [(10, 500), (0, 500)]),
+    (DECK, (0, 10, -1000), 1000, [(10, 500), (0, 500)]),
+    (DECK, (900, 50, 1000), 1000, [(10, 500), (0, 500)]),
+    (DECK, (-1, 25, 0), 1000, (6, 0)),
+    (DECK, (901, 25, 0), 1000, (6, 0)),
+    (DECK, (300, 9, 0), 1000, (6, 0)),
+    (DECK, (300, 51, 0), 1000, (6, 0)),
+    (DECK, (300, 25, -1001), 1000, (6, 0)),
+    (DECK, (300, 25, 1001), 1000, (6, 0)),
+    (DECK, (-(2**63), 2**63 - 1, 0), 1000, (6, 0)),
+    (b"", (901, 25, 0), 0, (6, 0)),
+    (b"\n", (901, 25, 0), 0, (6, 0)),
+    (b"DIST 1 5\n", (901, 25, 0), 0, (6, 0)),
+    (DECK, GIVEN, len(DECK_TEXT), [(10, 500), (0, 500)]),
+    (DECK, GIVEN, len(DECK_TEXT) - 1, (8, 0)),
+    (DECK, GIVEN, 0, (8, 0)),
+    (b"", GIVEN, 0, (3, 0)),
+    (DECK + b"\n", GIVEN, 0, (2, 3)),
+    (DECK.replace(b"1 0", b"1 .05"), GIVEN, 0, (16, 1)),
+    (DECK.replace(b"50.", b"50. 50"), GIVEN, 0, (17, 2)),
+)
+
+
+def test_decks():
+    for text, want in DECKS:
+        same((text, deck_outcome(text)), (text, want))
+    for text, head, room, want in DECK_CALLS:
+        same((text, head, room, deck_outcome(text, head, room)), (text, head, room, want))
+    same(deck.convert(GIVEN, DECK, 1000), DECK_TEXT)
+
+
+def test_deck_call():
+    """Room and answer: spare bytes stay, a refused call leaves all."""
+    call = decks.Call(*GIVEN, len(DECK_TEXT) + 3, (7, 8, 9), DECK)
+    lent = deck_calls.room_of(call.room)
+    same(len(set(deck_calls.room_of(97)) - set(range(151))), 97)
+    same(deck_calls.outcome(call), (0, (0, 63, 0), DECK_TEXT + lent[-3:]))
+    same(deck_calls.outcome(call._replace(room=62)), (8, (0, 0, 0), lent[:62]))
+    same(deck_calls.outcome(call._replace(deck=DECK[:-1])), (2, (2, 0, 0), lent))
+    same(deck_calls.outcome(call._replace(answer=(7, 8))), (255, (7, 8), lent))
+    same(deck_calls.outcome(call._replace(room=0, deck=b"")), (3, (0, 0, 0), b""))
+    same(deck_calls.read_back(DECK_TEXT), (0, 0, 2, 0, *GIVEN, 10, 500, 0, 500))
+    same(deck_calls.asked(call._replace(room=2, deck=b"\n"))[0], "deck 300 25 0 2 3 7 8 9 0a")
+    same(deck_calls.asked(call._replace(room=2, deck=b""))[1], "3 3 0 0 0 9798")
+
+
+def test_deck_points():
+    """The points that a deck was made of, in any shapes and on cards of any sizes."""
+    rng = random.Random(25)
+    shapes = set()
+    for tenths in [*range(130), *range(999_999_800, 999_999_991, 10)] * 40:
+        number = decks.shaped(rng, tenths)
+        same((number, deck.is_number(number), deck.units(number)), (number, True, tenths))
+        shapes.add((number.find(b"."), len(number)))
+    assert len(shapes) > 50, shapes
+    for _ in range(300):
+        points = decks.random_points(rng)
+        same(deck.read_deck(decks.random_deck(rng, points)), points)
+    for count in decks.COUNTS[1:]:
+        points = decks.some_points(count)
+        text = decks.deck_of(points, ((6,), (1,)))
+        same(deck.read_deck(text), points)
+        back = deck_calls.read_back(deck.traverse_text(GIVEN, points))
+        if 2 <= count <= 65:
+            same(back[:7], (0, 0, count, 0, *GIVEN))
+            same(list(zip(back[7::2], back[8::2])), points)
+            same(march.check_traverse(march.Traverse(*GIVEN, tuple(points))), None)
+        else:
+            same(back, (5, count, 0, 0))
+
+
+def test_deck_faults():
+    """One fault is answered, and the first of two."""
+    for fault in decks.faults_of(range(7)):
+        number, answer, _ = deck_calls.outcome(fault.change(decks.SOUND))
+        same((number, answer), (fault.number, (fault.place, 0, 0)))
+    met = set()
+    for call, first in decks.fault_pairs():
+        number, answer, _ = deck_calls.outcome(call)
+        same((call, number, answer), (call, first.number, (first.place, 0, 0)))
+        met.add((first.number, first.line))
+    same(met, {(n, line) for n in (2, 15, 16) for line in (1, 4, 7)} | {(15, 2), (15, 3), (15, 5)}
+         | {(3, 0), (6, 0), (8, 0), (17, 0)})  # fmt: skip
+
+
+def test_deck_calls_reach_all():
+    """Long decks are read and are refused at their first, middle and last card; of
+    each number of refusal there are calls."""
+    rng = random.Random(26)
+    cards, met = [], []
+    for call in decks.long_calls(rng):
+        number, answer, _ = deck_calls.outcome(call)
+        cards += [call.deck.count(b"\n")] * (number == 0)
+        met.append(number if number in (0, 8, 17) else answer[0])
+    same(cards, [20_000, 19_999, 77_000])
+    last = [[0, 8, 1, n // 2 + n % 2, n, n, 17] for n in cards]
+    same(met, [place for places in last for place in places])
+    for kind in ("order", "line", "byte"):
+        calls_of_it = decks.FIXED[kind](rng)
+        numbers = {deck_calls.outcome(call)[0] for call in calls_of_it}
+        same((kind, numbers >= {0, 2, 15, 17}), (kind, True))
+
+
+# Mistakes: what each does in place of a function of the model, most of them by way of
+# the right one.
+
+
+def no_leading_nought(field, right=deck.is_digits):
+    return right(field) and (field == b"0" or field[:1] != b"0")
+
+
+def point_counted(field, right=deck.is_number):
+    return right(field) and len(field) <= 8
+
+
+def digits_on_both_sides(field, right=deck.is_number):
+    return right(field) and b"" not in field.split(b".")
+
+
+def fields_by(change, places):
+    """The fields at these places changed before the card is judged."""
+
+    def mistake(line, right=deck.card_of):
+        fields = line.split(b" ")
+        fields[places] = map(change, fields[places])
+        return right(b" ".join(fields))
+
+    return mistake
+
+
+def of_word(change):
+    return fields_by(change, slice(0, 1))
+
+
+def of_numbers(change):
+    return fields_by(change, slice(2, None))
+
+
+def one_point_kept(field):
+    whole, point, part = field.partition(b".")
+    return whole + point + part.replace(b".", b"")
+
+
+def of_line(change):
+    return lambda line, right=deck.card_of: right(change(line))
+
+
+def of_card(good):
+    """A card that is not good is another shape."""
+
+    def mistake(line, right=deck.card_of):
+        card = right(line)
+        return card if card and good(card) else None
+
+    return mistake
+
+
+def rounded_down(field):
+    whole, _, part = field.partition(b".")
+    return deck.UNITS * int(whole + part) // 10 ** len(part)
+
+
+def one_decimal_at_most(field, right=deck.units):
+    return right(field) if len(field.partition(b".")[2]) <= 1 else None
+
+
+def numbers_go_on(card, before, right=deck.follows):
+    if card.word == before.word:
+        return right(card, before)
+    return card.number == before.number + 1 and right(card._replace(number=1), before)
+
+
+def gaps_taken(card, before, right=deck.follows):
+    last = before.number if card.word == before.word else 0
+    return card.number > last and right(card._replace(number=last + 1), before)
+
+
+def from_nought(card, before, right=deck.follows):
+    return right(card, before) or card[:2] == (deck.DIST, 0) and before == deck.START
+
+
+def back_to_distances(card, before, right=deck.follows):
+    return right(card, before) or card[:2] == (deck.DIST, 1) and before.word == deck.DEPTH
+
+
+def distances_needed(card, before, right=deck.follows):
+    return right(card, before) and (card.word != deck.DEPTH or before != deck.START)
+
+
+def word_before_shape(line, ended, before, right=deck.judge):
+    return right(line, ended, before) if line.startswith((deck.DIST, deck.DEPTH)) else 15
+
+
+def part_before_word(line, ended, before, right=deck.judge):
+    card = deck.card_of(line) if ended else None
+    return 16 if card and None in map(deck.units, card.numbers) else right(line, ended, before)
+
+
+def end_is_a_feed(line, ended, before, right=deck.judge):
+    return right(line, True, before)
+
+
+def shapes_first(text, right=deck.read_cards):
+    lines = reader.Lines(text)
+    bad = [n for n, l in enumerate(lines.lines, 1) if not (deck.card_of(l) and lines.ended(n))]
+    return march.Refusal(2, bad[0]) if bad else right(text)
+
+
+def told_of(text, number, place):
+    """One text that is refused so."""
+    return lambda given, right=deck.read_cards: (
+        march.Refusal(number, place) if given == text else right(given)
+    )
+
+
+def last_empty_line_taken(text, right=deck.read_cards):
+    return right(text[:-1] if text.endswith(b"\n\n") else text)
+
+
+def of_columns(change):
+    """Points made otherwise of the distances and depths."""
+
+    def mistake(text):
+        columns = deck.read_cards(text)
+        return columns if isinstance(columns, march.Refusal) else change(*columns)
+
+    return mistake
+
+
+def paired(distances, depths, place):
+    same_count = len(distances) == len(depths)
+    return list(zip(distances, depths)) if same_count else march.Refusal(17, place)
+
+
+def most_points(text, right=deck.read_deck):
+    points = right(text)
+    return points if len(points) <= 65 else march.Refusal(5, len(points))
+
+
+def no_distances_first(text, right=deck.read_deck):
+    return march.Refusal(17, 0) if text.startswith(deck.DEPTH) else right(text)
+
+
+def friction_to_51(head, right=deck.check_given):
+    return None if head[1] == 51 else right(head)
+
+
+def level_from_nought(head, right=deck.check_given):
+    return right(head) if head[2] >= 0 else march.Refusal(6, 0)
+
+
+def room_to_spare(head, text, room, right=deck.convert):
+    return right(head, text, room - 1)
+
+
+def room_first(head, text, room, right=deck.convert):
+    return right(head, text, room) if room >= 50 else march.Refusal(8, 0)
+
+
+def deck_before_given(head, text, room, right=deck.convert):
+    points = deck.read_deck(text)
+    return points if isinstance(points, march.Refusal) else right(head, text, room)
+
+
+def cut_to_room(head, text, room, right=deck.convert):
+    made = right(head, text, 10**9)
+    return made if isinstance(made, march.Refusal) else made[:room]
+
+
+OUR_WORDS = {b"DI": deck.DIST, b"DE": deck.DEPTH}
+# The mistake, where it stands, what stands there, and a kind of call that has to
+# notice it, as the cases by hand have to.
+DECK_MISTAKES = (
+    ("seven digits at most", "MOST_DIGITS", 7, "number"),
+    ("nine digits", "MOST_DIGITS", 9, "digit"),
+    ("five numbers at most", "MOST_NUMBERS", 5, "step"),
+    ("seven numbers", "MOST_NUMBERS", 7, "line"),
+    ("whole miles and feet", "UNITS", 1, "step"),
+    ("hundredths", "UNITS", 100, "number"),
+    ("no leading nought", "is_digits", no_leading_nought, "card"),
+    ("point counted", "is_number", point_counted, "number"),
+    ("digits on both sides of a point", "is_number", digits_on_both_sides, "number"),
+    ("a point alone", "card_of", of_numbers(lambda f: b"0" if f == b"." else f), "digit"),
+    ("two points", "card_of", of_numbers(one_point_kept), "number"),
+    ("a sign", "card_of", of_numbers(lambda f: f.lstrip(b"+-")), "number"),
+    ("any white space", "card_of", of_line(lambda line: b" ".join(line.split())), "line"),
+    ("a carriage return", "card_of", of_line(lambda line: line.removesuffix(b"\r")), "line"),
+    ("spaces at the end", "card_of", of_line(lambda line: line.rstrip(b" ")), "line"),
+    ("card number 0 another shape", "card_of", of_card(lambda card: card.number), "card"),
+    ("a wrong word another shape", "card_of", of_card(lambda card: card.word in OUR_WORDS.values()), "word"),
+    ("capitals or not", "card_of", of_word(bytes.upper), "word"),
+    ("a word to its zero byte", "card_of", of_word(lambda f: f.split(b"\x00")[0]), "word"),
+    ("a word by its beginning", "card_of", of_word(lambda f: OUR_WORDS.get(f[:2], f)), "word"),
+    ("white space in a word", "card_of", of_word(bytes.strip), "word"),
+    ("rounded down", "units", rounded_down, "number"),
+    ("one decimal at most", "units", one_decimal_at_most, "number"),
+    ("card numbers that go on", "follows", numbers_go_on, "step"),
+    ("card numbers with gaps", "follows", gaps_taken, "card"),
+    ("card numbers from 0", "follows", from_nought, "card"),
+    ("distances after depths", "follows", back_to_distances, "order"),
+    ("distances needed", "follows", distances_needed, "count"),
+    ("15 before 2", "judge", word_before_shape, "pair"),
+    ("16 before 15", "judge", part_before_word, "pair"),
+    ("no last line feed", "judge", end_is_a_feed, "line"),
+    ("2 of all lines first", "read_cards", shapes_first, "pair"),
+    ("no byte a line", "read_cards", told_of(b"", 2, 1), "given"),
+    ("place 1 for no byte", "read_cards", told_of(b"", 3, 1), "given"),
+    ("a lone line feed no line", "read_cards", told_of(b"\n", 3, 0), "given"),
+    ("an empty line at the end", "read_cards", last_empty_line_taken, "line"),
+    ("17 with the depths", "read_deck", of_columns(lambda a, b: paired(a, b, len(b))), "count"),
+    ("17 with 65 at most", "read_deck", of_columns(lambda a, b: paired(a, b, min(65, len(a)))), "count"),
+    ("the shorter count", "read_deck", of_columns(lambda a, b: list(zip(a, b))), "count"),
+    ("depths before distances", "read_deck", of_columns(lambda a, b: paired(b, a, len(a))), "step"),
+    ("shore to sea", "read_deck", of_columns(lambda a, b: paired(a[::-1], b[::-1], len(a))), "step"),
+    ("65 points at most", "read_deck", most_points, "step"),
+    ("17 before the cards", "read_deck", no_distances_first, "order"),
+    ("friction 51", "check_given", friction_to_51, "given"),
+    ("no level below 0", "check_given", level_from_nought, "given"),
+    ("room to spare", "convert", room_to_spare, "room"),
+    ("the room first", "convert", room_first, "pair"),
+    ("the deck before the given values", "convert", deck_before_given, "given"),
+    ("a text cut to its room", "convert", cut_to_room, "room"),
+)
+
+
+def hand_outcomes():
+    """Of all decks by hand."""
+    asked = [(GIVEN, text, 1000) for text, _ in DECKS]
+    asked += [(head, text, room) for text, head, room, _ in DECK_CALLS]
+    numbers = (*DECK_NUMBERS, *DECK_PARTS, *DECK_SHAPES)
+    asked += [(GIVEN, b"DIST 1 %s\nDEPTH 1 2\n" % number, 1000) for number in numbers]
+    return [deck.convert(*call) for call in asked]
+
+
+def test_deck_mistakes_are_noticed():
+    kinds = sorted({kind for *_, kind in DECK_MISTAKES})
+    asked = {kind: list(decks.FIXED[kind](random.Random(27))) for kind in kinds}
+    right = {kind: [deck_calls.outcome(call) for call in asked[kind]] for kind in kinds}
+    by_hand = hand_outcomes()
+    for label, name, mistake, kind in DECK_MISTAKES:
+        with mock.patch.object(deck, name, mistake):
+            wrong = [deck_calls.outcome(call) for call in asked[kind]]
+            hand = sum(a != b for a, b in zip(hand_outcomes(), by_hand))
+        noticed = sum(a != b for a, b in zip(wrong, right[kind]))
+        shown = (label, noticed, len(wrong), hand, len(by_hand))
+        print("  %-32s noticed in %4d of %4d calls, in %d of %d by hand" % shown)
+        assert noticed > 1 and hand > 0, label
 
 
 def main():
