@@ -1,5 +1,5 @@
--- The definitions computed on decks and numbers worked out by hand: document 01's listing as a deck, every shape of number, each refusal and two faults at
--- once. Assumes nothing.
+-- The definitions computed on decks and numbers worked out by hand: document 01's listing and TM-50's first cards as decks, every shape of number, each
+-- refusal, two faults at once. In the comments a line feed is \n. Assumes nothing.
 use mathlib.Core.Path.{◌≡◌, refl}
 use mathlib.Core.Bool.{true, false}
 use mathlib.Core.List.{[], ◌∷◌}
@@ -18,185 +18,156 @@ use Rattle.deck.specs.Number.{countAt, worthAt, countGood, pointAt, partFrom, pa
 use Rattle.deck.specs.Cards.{inWord, wordEnd, wordAt, numbersAt, headGood, cardWith, cardAt, followsBy, follows, cards, refused, cardsBy, deckOf}
 use Rattle.deck.specs.Deck.{pointLine, pointLines, headLines, traverseText, leftDeck, putText, convertOf}
 
--- ---- numbers: the place past them, whether they are one, their tenths, whether these are whole
+-- a number at the front of a text: the place past it, whether it is one, its tenths, whether they are whole
+pub record NumberCases : Type 0 where
+  -- `12.5 `
+  fraction : numberAt (49 ∷ 50 ∷ 46 ∷ 53 ∷ 32 ∷ []) 0 ≡ record { past = cursor 4; good = true; tenths = 125; whole = true }
+  -- `.5\n`
+  point-first : numberAt (46 ∷ 53 ∷ 10 ∷ []) 0 ≡ record { past = cursor 2; good = true; tenths = 5; whole = true }
+  -- `5. `
+  point-last : numberAt (53 ∷ 46 ∷ 32 ∷ []) 0 ≡ record { past = cursor 2; good = true; tenths = 50; whole = true }
+  -- `00012.50\n`
+  noughts-around : numberAt (48 ∷ 48 ∷ 48 ∷ 49 ∷ 50 ∷ 46 ∷ 53 ∷ 48 ∷ 10 ∷ []) 0 ≡ record { past = cursor 8; good = true; tenths = 125; whole = true }
+  -- `20.10 `
+  nought-behind : numberAt (50 ∷ 48 ∷ 46 ∷ 49 ∷ 48 ∷ 32 ∷ []) 0 ≡ record { past = cursor 5; good = true; tenths = 201; whole = true }
+  -- `.05 `
+  hundredths : numberAt (46 ∷ 48 ∷ 53 ∷ 32 ∷ []) 0 ≡ record { past = cursor 3; good = true; tenths = 0; whole = false }
+  -- `1.23 `
+  tenths-and-hundredths : numberAt (49 ∷ 46 ∷ 50 ∷ 51 ∷ 32 ∷ []) 0 ≡ record { past = cursor 4; good = true; tenths = 12; whole = false }
+  -- `. `
+  point-alone : numberAt (46 ∷ 32 ∷ []) 0 ≡ record { past = cursor 1; good = false; tenths = 0; whole = true }
+  -- `99999999\n`
+  eight-digits : numberAt (57 ∷ 57 ∷ 57 ∷ 57 ∷ 57 ∷ 57 ∷ 57 ∷ 57 ∷ 10 ∷ []) 0 ≡ record { past = cursor 8; good = true; tenths = 999999990; whole = true }
+  -- `1234567.8\n`
+  eight-with-point : numberAt (49 ∷ 50 ∷ 51 ∷ 52 ∷ 53 ∷ 54 ∷ 55 ∷ 46 ∷ 56 ∷ 10 ∷ []) 0 ≡ record { past = cursor 9; good = true; tenths = 12345678; whole = true }
+  -- `123456789 `
+  nine-digits : numberAt (49 ∷ 50 ∷ 51 ∷ 52 ∷ 53 ∷ 54 ∷ 55 ∷ 56 ∷ 57 ∷ 32 ∷ []) 0 ≡ record { past = cursor 9; good = false; tenths = 1234567890; whole = true }
+  -- `12345678.9 `
+  nine-with-point : numberAt (49 ∷ 50 ∷ 51 ∷ 52 ∷ 53 ∷ 54 ∷ 55 ∷ 56 ∷ 46 ∷ 57 ∷ 32 ∷ []) 0 ≡ record { past = cursor 10; good = false; tenths = 123456789; whole = true }
+  -- `0 `
+  nought : numberAt (48 ∷ 32 ∷ []) 0 ≡ record { past = cursor 1; good = true; tenths = 0; whole = true }
 
--- `12.5`
-pub number-1 : numberAt (49 ∷ 50 ∷ 46 ∷ 53 ∷ 32 ∷ []) 0 ≡ record { past = cursor 4; good = true; tenths = 125; whole = true }
+pub number-cases : NumberCases
 unfolding numberAt goodAt pastAt tenthsAt wholeAt partCount partWorth partFrom pointAt countGood countAt worthAt digits worth digitAt
-number-1 = refl
+number-cases = record {
+  fraction = refl;
+  point-first = refl;
+  point-last = refl;
+  noughts-around = refl;
+  nought-behind = refl;
+  hundredths = refl;
+  tenths-and-hundredths = refl;
+  point-alone = refl;
+  eight-digits = refl;
+  eight-with-point = refl;
+  nine-digits = refl;
+  nine-with-point = refl;
+  nought = refl;
+}
 
--- `.5`
-pub number-2 : numberAt (46 ∷ 53 ∷ 10 ∷ []) 0 ≡ record { past = cursor 2; good = true; tenths = 5; whole = true }
-unfolding numberAt goodAt pastAt tenthsAt wholeAt partCount partWorth partFrom pointAt countGood countAt worthAt digits worth digitAt
-number-2 = refl
+-- whole decks: the distances and the depths, or the refusal
+pub record DeckCases : Type 0 where
+  -- `DIST 1 1 .0\nDEPTH 1 50 50\n`
+  two-cards : deckOf (68 ∷ 73 ∷ 83 ∷ 84 ∷ 32 ∷ 49 ∷ 32 ∷ 49 ∷ 32 ∷ 46 ∷ 48 ∷ 10 ∷ 68 ∷ 69 ∷ 80 ∷ 84 ∷ 72 ∷ 32 ∷ 49 ∷ 32 ∷ 53 ∷ 48 ∷ 32 ∷ 53 ∷ 48 ∷ 10 ∷ []) ≡ cards (10 ∷ 0 ∷ []) (500 ∷ 500 ∷ [])
+  -- `DIST 1 47.6 46.6 43.6 40.6 39.6 38.6\nDEPTH 1 600. 580. 456. 446. 410. 420.\n`
+  hampton-beach : deckOf (68 ∷ 73 ∷ 83 ∷ 84 ∷ 32 ∷ 49 ∷ 32 ∷ 52 ∷ 55 ∷ 46 ∷ 54 ∷ 32 ∷ 52 ∷ 54 ∷ 46 ∷ 54 ∷ 32 ∷ 52 ∷ 51 ∷ 46 ∷ 54 ∷ 32 ∷ 52 ∷ 48 ∷ 46 ∷ 54 ∷ 32 ∷ 51 ∷ 57 ∷ 46 ∷ 54 ∷ 32 ∷ 51 ∷ 56 ∷ 46 ∷ 54 ∷ 10 ∷ 68 ∷ 69 ∷ 80 ∷ 84 ∷ 72 ∷ 32 ∷ 49 ∷ 32 ∷ 54 ∷ 48 ∷ 48 ∷ 46 ∷ 32 ∷ 53 ∷ 56 ∷ 48 ∷ 46 ∷ 32 ∷ 52 ∷ 53 ∷ 54 ∷ 46 ∷ 32 ∷ 52 ∷ 52 ∷ 54 ∷ 46 ∷ 32 ∷ 52 ∷ 49 ∷ 48 ∷ 46 ∷ 32 ∷ 52 ∷ 50 ∷ 48 ∷ 46 ∷ 10 ∷ []) ≡ cards (476 ∷ 466 ∷ 436 ∷ 406 ∷ 396 ∷ 386 ∷ []) (6000 ∷ 5800 ∷ 4560 ∷ 4460 ∷ 4100 ∷ 4200 ∷ [])
+  -- `DIST 1 2 1\nDIST 2 0\nDEPTH 00000001 3\nDEPTH 2 4 5\n`
+  cards-not-in-step : deckOf (68 ∷ 73 ∷ 83 ∷ 84 ∷ 32 ∷ 49 ∷ 32 ∷ 50 ∷ 32 ∷ 49 ∷ 10 ∷ 68 ∷ 73 ∷ 83 ∷ 84 ∷ 32 ∷ 50 ∷ 32 ∷ 48 ∷ 10 ∷ 68 ∷ 69 ∷ 80 ∷ 84 ∷ 72 ∷ 32 ∷ 48 ∷ 48 ∷ 48 ∷ 48 ∷ 48 ∷ 48 ∷ 48 ∷ 49 ∷ 32 ∷ 51 ∷ 10 ∷ 68 ∷ 69 ∷ 80 ∷ 84 ∷ 72 ∷ 32 ∷ 50 ∷ 32 ∷ 52 ∷ 32 ∷ 53 ∷ 10 ∷ []) ≡ cards (20 ∷ 10 ∷ 0 ∷ []) (30 ∷ 40 ∷ 50 ∷ [])
+  -- ``
+  no-byte : deckOf ([]) ≡ refused (refusal kind.Ended 0)
+  -- `\n`
+  line-feed-alone : deckOf (10 ∷ []) ≡ refused (refusal kind.Malformed 1)
+  -- `DIST 1 1`
+  no-line-feed : deckOf (68 ∷ 73 ∷ 83 ∷ 84 ∷ 32 ∷ 49 ∷ 32 ∷ 49 ∷ []) ≡ refused (refusal kind.Malformed 1)
+  -- `DIST 1 1 \n`
+  space-at-end : deckOf (68 ∷ 73 ∷ 83 ∷ 84 ∷ 32 ∷ 49 ∷ 32 ∷ 49 ∷ 32 ∷ 10 ∷ []) ≡ refused (refusal kind.Malformed 1)
+  -- `DIST  1 1\n`
+  two-spaces : deckOf (68 ∷ 73 ∷ 83 ∷ 84 ∷ 32 ∷ 32 ∷ 49 ∷ 32 ∷ 49 ∷ 10 ∷ []) ≡ refused (refusal kind.Malformed 1)
+  -- `DIST 1\n`
+  no-number : deckOf (68 ∷ 73 ∷ 83 ∷ 84 ∷ 32 ∷ 49 ∷ 10 ∷ []) ≡ refused (refusal kind.Malformed 1)
+  -- `DIST 1 1 1 1 1 1 1 1\n`
+  seven-numbers : deckOf (68 ∷ 73 ∷ 83 ∷ 84 ∷ 32 ∷ 49 ∷ 32 ∷ 49 ∷ 32 ∷ 49 ∷ 32 ∷ 49 ∷ 32 ∷ 49 ∷ 32 ∷ 49 ∷ 32 ∷ 49 ∷ 32 ∷ 49 ∷ 10 ∷ []) ≡ refused (refusal kind.Malformed 1)
+  -- ` 1 1\n`
+  no-word : deckOf (32 ∷ 49 ∷ 32 ∷ 49 ∷ 10 ∷ []) ≡ refused (refusal kind.Malformed 1)
+  -- `DIST 1 1\r\n`
+  carriage-return : deckOf (68 ∷ 73 ∷ 83 ∷ 84 ∷ 32 ∷ 49 ∷ 32 ∷ 49 ∷ 13 ∷ 10 ∷ []) ≡ refused (refusal kind.Malformed 1)
+  -- `DIST 1 -1\n`
+  minus : deckOf (68 ∷ 73 ∷ 83 ∷ 84 ∷ 32 ∷ 49 ∷ 32 ∷ 45 ∷ 49 ∷ 10 ∷ []) ≡ refused (refusal kind.Malformed 1)
+  -- `DIST 000000001 1\n`
+  long-card-number : deckOf (68 ∷ 73 ∷ 83 ∷ 84 ∷ 32 ∷ 48 ∷ 48 ∷ 48 ∷ 48 ∷ 48 ∷ 48 ∷ 48 ∷ 48 ∷ 49 ∷ 32 ∷ 49 ∷ 10 ∷ []) ≡ refused (refusal kind.Malformed 1)
+  -- `DI\tT 1 1\n`
+  tab-in-word : deckOf (68 ∷ 73 ∷ 9 ∷ 84 ∷ 32 ∷ 49 ∷ 32 ∷ 49 ∷ 10 ∷ []) ≡ refused (refusal kind.CardOrder 1)
+  -- `dist 1 1\n`
+  small-letters : deckOf (100 ∷ 105 ∷ 115 ∷ 116 ∷ 32 ∷ 49 ∷ 32 ∷ 49 ∷ 10 ∷ []) ≡ refused (refusal kind.CardOrder 1)
+  -- `DIST 0 1\n`
+  card-nought : deckOf (68 ∷ 73 ∷ 83 ∷ 84 ∷ 32 ∷ 48 ∷ 32 ∷ 49 ∷ 10 ∷ []) ≡ refused (refusal kind.CardOrder 1)
+  -- `DIST 2 1\n`
+  card-two-first : deckOf (68 ∷ 73 ∷ 83 ∷ 84 ∷ 32 ∷ 50 ∷ 32 ∷ 49 ∷ 10 ∷ []) ≡ refused (refusal kind.CardOrder 1)
+  -- `DIST 1 1\nDEPTH 2 1\n`
+  number-not-reset : deckOf (68 ∷ 73 ∷ 83 ∷ 84 ∷ 32 ∷ 49 ∷ 32 ∷ 49 ∷ 10 ∷ 68 ∷ 69 ∷ 80 ∷ 84 ∷ 72 ∷ 32 ∷ 50 ∷ 32 ∷ 49 ∷ 10 ∷ []) ≡ refused (refusal kind.CardOrder 2)
+  -- `DIST 1 1\nDEPTH 1 1\nDIST 2 1\n`
+  dist-behind-depth : deckOf (68 ∷ 73 ∷ 83 ∷ 84 ∷ 32 ∷ 49 ∷ 32 ∷ 49 ∷ 10 ∷ 68 ∷ 69 ∷ 80 ∷ 84 ∷ 72 ∷ 32 ∷ 49 ∷ 32 ∷ 49 ∷ 10 ∷ 68 ∷ 73 ∷ 83 ∷ 84 ∷ 32 ∷ 50 ∷ 32 ∷ 49 ∷ 10 ∷ []) ≡ refused (refusal kind.CardOrder 3)
+  -- `DIST 1 1\nDIST 2 1 .05\n`
+  hundredths : deckOf (68 ∷ 73 ∷ 83 ∷ 84 ∷ 32 ∷ 49 ∷ 32 ∷ 49 ∷ 10 ∷ 68 ∷ 73 ∷ 83 ∷ 84 ∷ 32 ∷ 50 ∷ 32 ∷ 49 ∷ 32 ∷ 46 ∷ 48 ∷ 53 ∷ 10 ∷ []) ≡ refused (refusal kind.CardUnit 2)
+  -- `DIST 2 1 \n`
+  shape-before-order : deckOf (68 ∷ 73 ∷ 83 ∷ 84 ∷ 32 ∷ 50 ∷ 32 ∷ 49 ∷ 32 ∷ 10 ∷ []) ≡ refused (refusal kind.Malformed 1)
+  -- `DIST 2 .05\n`
+  order-before-unit : deckOf (68 ∷ 73 ∷ 83 ∷ 84 ∷ 32 ∷ 50 ∷ 32 ∷ 46 ∷ 48 ∷ 53 ∷ 10 ∷ []) ≡ refused (refusal kind.CardOrder 1)
+  -- `DIST 1 .05\nDIST 1 1 \n`
+  earliest-line : deckOf (68 ∷ 73 ∷ 83 ∷ 84 ∷ 32 ∷ 49 ∷ 32 ∷ 46 ∷ 48 ∷ 53 ∷ 10 ∷ 68 ∷ 73 ∷ 83 ∷ 84 ∷ 32 ∷ 49 ∷ 32 ∷ 49 ∷ 32 ∷ 10 ∷ []) ≡ refused (refusal kind.CardUnit 1)
+  -- `DEPTH 1 5\n`
+  no-dist : deckOf (68 ∷ 69 ∷ 80 ∷ 84 ∷ 72 ∷ 32 ∷ 49 ∷ 32 ∷ 53 ∷ 10 ∷ []) ≡ cards ([]) (50 ∷ [])
 
--- `5.`
-pub number-3 : numberAt (53 ∷ 46 ∷ 32 ∷ []) 0 ≡ record { past = cursor 2; good = true; tenths = 50; whole = true }
-unfolding numberAt goodAt pastAt tenthsAt wholeAt partCount partWorth partFrom pointAt countGood countAt worthAt digits worth digitAt
-number-3 = refl
-
--- `00012.50`
-pub number-4 : numberAt (48 ∷ 48 ∷ 48 ∷ 49 ∷ 50 ∷ 46 ∷ 53 ∷ 48 ∷ 10 ∷ []) 0 ≡ record { past = cursor 8; good = true; tenths = 125; whole = true }
-unfolding numberAt goodAt pastAt tenthsAt wholeAt partCount partWorth partFrom pointAt countGood countAt worthAt digits worth digitAt
-number-4 = refl
-
--- `20.10`
-pub number-5 : numberAt (50 ∷ 48 ∷ 46 ∷ 49 ∷ 48 ∷ 32 ∷ []) 0 ≡ record { past = cursor 5; good = true; tenths = 201; whole = true }
-unfolding numberAt goodAt pastAt tenthsAt wholeAt partCount partWorth partFrom pointAt countGood countAt worthAt digits worth digitAt
-number-5 = refl
-
--- `.05`
-pub number-6 : numberAt (46 ∷ 48 ∷ 53 ∷ 32 ∷ []) 0 ≡ record { past = cursor 3; good = true; tenths = 0; whole = false }
-unfolding numberAt goodAt pastAt tenthsAt wholeAt partCount partWorth partFrom pointAt countGood countAt worthAt digits worth digitAt
-number-6 = refl
-
--- `.`
-pub number-7 : numberAt (46 ∷ 32 ∷ []) 0 ≡ record { past = cursor 1; good = false; tenths = 0; whole = true }
-unfolding numberAt goodAt pastAt tenthsAt wholeAt partCount partWorth partFrom pointAt countGood countAt worthAt digits worth digitAt
-number-7 = refl
-
--- `99999999`
-pub number-8 : numberAt (57 ∷ 57 ∷ 57 ∷ 57 ∷ 57 ∷ 57 ∷ 57 ∷ 57 ∷ 10 ∷ []) 0 ≡ record { past = cursor 8; good = true; tenths = 999999990; whole = true }
-unfolding numberAt goodAt pastAt tenthsAt wholeAt partCount partWorth partFrom pointAt countGood countAt worthAt digits worth digitAt
-number-8 = refl
-
--- `123456789`
-pub number-9 : numberAt (49 ∷ 50 ∷ 51 ∷ 52 ∷ 53 ∷ 54 ∷ 55 ∷ 56 ∷ 57 ∷ 32 ∷ []) 0 ≡ record { past = cursor 9; good = false; tenths = 1234567890; whole = true }
-unfolding numberAt goodAt pastAt tenthsAt wholeAt partCount partWorth partFrom pointAt countGood countAt worthAt digits worth digitAt
-number-9 = refl
-
--- `12345678.9`
-pub number-10 : numberAt (49 ∷ 50 ∷ 51 ∷ 52 ∷ 53 ∷ 54 ∷ 55 ∷ 56 ∷ 46 ∷ 57 ∷ 32 ∷ []) 0 ≡ record { past = cursor 10; good = false; tenths = 123456789; whole = true }
-unfolding numberAt goodAt pastAt tenthsAt wholeAt partCount partWorth partFrom pointAt countGood countAt worthAt digits worth digitAt
-number-10 = refl
-
--- `1.23`
-pub number-11 : numberAt (49 ∷ 46 ∷ 50 ∷ 51 ∷ 32 ∷ []) 0 ≡ record { past = cursor 4; good = true; tenths = 12; whole = false }
-unfolding numberAt goodAt pastAt tenthsAt wholeAt partCount partWorth partFrom pointAt countGood countAt worthAt digits worth digitAt
-number-11 = refl
-
--- `0`
-pub number-12 : numberAt (48 ∷ 32 ∷ []) 0 ≡ record { past = cursor 1; good = true; tenths = 0; whole = true }
-unfolding numberAt goodAt pastAt tenthsAt wholeAt partCount partWorth partFrom pointAt countGood countAt worthAt digits worth digitAt
-number-12 = refl
-
--- ---- decks
-
-pub deck-two-cards-of-two : deckOf (68 ∷ 73 ∷ 83 ∷ 84 ∷ 32 ∷ 49 ∷ 32 ∷ 49 ∷ 32 ∷ 46 ∷ 48 ∷ 10 ∷ 68 ∷ 69 ∷ 80 ∷ 84 ∷ 72 ∷ 32 ∷ 49 ∷ 32 ∷ 53 ∷ 48 ∷ 32 ∷ 53 ∷ 48 ∷ 10 ∷ []) ≡ cards (10 ∷ 0 ∷ []) (500 ∷ 500 ∷ [])
+pub deck-cases : DeckCases
 unfolding deckOf cardsBy cardAt cardWith headGood numbersAt wordAt wordEnd inWord followsBy follows spells more goodAt pastAt tenthsAt wholeAt partCount partWorth partFrom pointAt countGood countAt worthAt digits worth digitAt
-deck-two-cards-of-two = refl
+deck-cases = record {
+  two-cards = refl;
+  hampton-beach = refl;
+  cards-not-in-step = refl;
+  no-byte = refl;
+  line-feed-alone = refl;
+  no-line-feed = refl;
+  space-at-end = refl;
+  two-spaces = refl;
+  no-number = refl;
+  seven-numbers = refl;
+  no-word = refl;
+  carriage-return = refl;
+  minus = refl;
+  long-card-number = refl;
+  tab-in-word = refl;
+  small-letters = refl;
+  card-nought = refl;
+  card-two-first = refl;
+  number-not-reset = refl;
+  dist-behind-depth = refl;
+  hundredths = refl;
+  shape-before-order = refl;
+  order-before-unit = refl;
+  earliest-line = refl;
+  no-dist = refl;
+}
 
-pub deck-cards-need-not-hold-as-many : deckOf (68 ∷ 73 ∷ 83 ∷ 84 ∷ 32 ∷ 49 ∷ 32 ∷ 50 ∷ 32 ∷ 49 ∷ 10 ∷ 68 ∷ 73 ∷ 83 ∷ 84 ∷ 32 ∷ 50 ∷ 32 ∷ 48 ∷ 10 ∷ 68 ∷ 69 ∷ 80 ∷ 84 ∷ 72 ∷ 32 ∷ 48 ∷ 48 ∷ 48 ∷ 48 ∷ 48 ∷ 48 ∷ 48 ∷ 49 ∷ 32 ∷ 51 ∷ 10 ∷ 68 ∷ 69 ∷ 80 ∷ 84 ∷ 72 ∷ 32 ∷ 50 ∷ 32 ∷ 52 ∷ 32 ∷ 53 ∷ 10 ∷ []) ≡ cards (20 ∷ 10 ∷ 0 ∷ []) (30 ∷ 40 ∷ 50 ∷ [])
-unfolding deckOf cardsBy cardAt cardWith headGood numbersAt wordAt wordEnd inWord followsBy follows spells more goodAt pastAt tenthsAt wholeAt partCount partWorth partFrom pointAt countGood countAt worthAt digits worth digitAt
-deck-cards-need-not-hold-as-many = refl
-
-pub deck-no-byte : deckOf ([]) ≡ refused (refusal kind.Ended 0)
-unfolding deckOf cardsBy cardAt cardWith headGood numbersAt wordAt wordEnd inWord followsBy follows spells more goodAt pastAt tenthsAt wholeAt partCount partWorth partFrom pointAt countGood countAt worthAt digits worth digitAt
-deck-no-byte = refl
-
-pub deck-a-line-feed-alone : deckOf (10 ∷ []) ≡ refused (refusal kind.Malformed 1)
-unfolding deckOf cardsBy cardAt cardWith headGood numbersAt wordAt wordEnd inWord followsBy follows spells more goodAt pastAt tenthsAt wholeAt partCount partWorth partFrom pointAt countGood countAt worthAt digits worth digitAt
-deck-a-line-feed-alone = refl
-
-pub deck-no-line-feed-at-end : deckOf (68 ∷ 73 ∷ 83 ∷ 84 ∷ 32 ∷ 49 ∷ 32 ∷ 49 ∷ []) ≡ refused (refusal kind.Malformed 1)
-unfolding deckOf cardsBy cardAt cardWith headGood numbersAt wordAt wordEnd inWord followsBy follows spells more goodAt pastAt tenthsAt wholeAt partCount partWorth partFrom pointAt countGood countAt worthAt digits worth digitAt
-deck-no-line-feed-at-end = refl
-
-pub deck-a-space-at-end : deckOf (68 ∷ 73 ∷ 83 ∷ 84 ∷ 32 ∷ 49 ∷ 32 ∷ 49 ∷ 32 ∷ 10 ∷ []) ≡ refused (refusal kind.Malformed 1)
-unfolding deckOf cardsBy cardAt cardWith headGood numbersAt wordAt wordEnd inWord followsBy follows spells more goodAt pastAt tenthsAt wholeAt partCount partWorth partFrom pointAt countGood countAt worthAt digits worth digitAt
-deck-a-space-at-end = refl
-
-pub deck-two-spaces : deckOf (68 ∷ 73 ∷ 83 ∷ 84 ∷ 32 ∷ 32 ∷ 49 ∷ 32 ∷ 49 ∷ 10 ∷ []) ≡ refused (refusal kind.Malformed 1)
-unfolding deckOf cardsBy cardAt cardWith headGood numbersAt wordAt wordEnd inWord followsBy follows spells more goodAt pastAt tenthsAt wholeAt partCount partWorth partFrom pointAt countGood countAt worthAt digits worth digitAt
-deck-two-spaces = refl
-
-pub deck-no-number : deckOf (68 ∷ 73 ∷ 83 ∷ 84 ∷ 32 ∷ 49 ∷ 10 ∷ []) ≡ refused (refusal kind.Malformed 1)
-unfolding deckOf cardsBy cardAt cardWith headGood numbersAt wordAt wordEnd inWord followsBy follows spells more goodAt pastAt tenthsAt wholeAt partCount partWorth partFrom pointAt countGood countAt worthAt digits worth digitAt
-deck-no-number = refl
-
-pub deck-seven-numbers : deckOf (68 ∷ 73 ∷ 83 ∷ 84 ∷ 32 ∷ 49 ∷ 32 ∷ 49 ∷ 32 ∷ 49 ∷ 32 ∷ 49 ∷ 32 ∷ 49 ∷ 32 ∷ 49 ∷ 32 ∷ 49 ∷ 32 ∷ 49 ∷ 10 ∷ []) ≡ refused (refusal kind.Malformed 1)
-unfolding deckOf cardsBy cardAt cardWith headGood numbersAt wordAt wordEnd inWord followsBy follows spells more goodAt pastAt tenthsAt wholeAt partCount partWorth partFrom pointAt countGood countAt worthAt digits worth digitAt
-deck-seven-numbers = refl
-
-pub deck-an-empty-word : deckOf (32 ∷ 49 ∷ 32 ∷ 49 ∷ 10 ∷ []) ≡ refused (refusal kind.Malformed 1)
-unfolding deckOf cardsBy cardAt cardWith headGood numbersAt wordAt wordEnd inWord followsBy follows spells more goodAt pastAt tenthsAt wholeAt partCount partWorth partFrom pointAt countGood countAt worthAt digits worth digitAt
-deck-an-empty-word = refl
-
-pub deck-a-carriage-return : deckOf (68 ∷ 73 ∷ 83 ∷ 84 ∷ 32 ∷ 49 ∷ 32 ∷ 49 ∷ 13 ∷ 10 ∷ []) ≡ refused (refusal kind.Malformed 1)
-unfolding deckOf cardsBy cardAt cardWith headGood numbersAt wordAt wordEnd inWord followsBy follows spells more goodAt pastAt tenthsAt wholeAt partCount partWorth partFrom pointAt countGood countAt worthAt digits worth digitAt
-deck-a-carriage-return = refl
-
-pub deck-a-minus : deckOf (68 ∷ 73 ∷ 83 ∷ 84 ∷ 32 ∷ 49 ∷ 32 ∷ 45 ∷ 49 ∷ 10 ∷ []) ≡ refused (refusal kind.Malformed 1)
-unfolding deckOf cardsBy cardAt cardWith headGood numbersAt wordAt wordEnd inWord followsBy follows spells more goodAt pastAt tenthsAt wholeAt partCount partWorth partFrom pointAt countGood countAt worthAt digits worth digitAt
-deck-a-minus = refl
-
-pub deck-nine-digits-of-card-number : deckOf (68 ∷ 73 ∷ 83 ∷ 84 ∷ 32 ∷ 48 ∷ 48 ∷ 48 ∷ 48 ∷ 48 ∷ 48 ∷ 48 ∷ 48 ∷ 49 ∷ 32 ∷ 49 ∷ 10 ∷ []) ≡ refused (refusal kind.Malformed 1)
-unfolding deckOf cardsBy cardAt cardWith headGood numbersAt wordAt wordEnd inWord followsBy follows spells more goodAt pastAt tenthsAt wholeAt partCount partWorth partFrom pointAt countGood countAt worthAt digits worth digitAt
-deck-nine-digits-of-card-number = refl
-
-pub deck-a-tab-in-word : deckOf (68 ∷ 73 ∷ 9 ∷ 84 ∷ 32 ∷ 49 ∷ 32 ∷ 49 ∷ 10 ∷ []) ≡ refused (refusal kind.CardOrder 1)
-unfolding deckOf cardsBy cardAt cardWith headGood numbersAt wordAt wordEnd inWord followsBy follows spells more goodAt pastAt tenthsAt wholeAt partCount partWorth partFrom pointAt countGood countAt worthAt digits worth digitAt
-deck-a-tab-in-word = refl
-
-pub deck-a-word-in-small-letters : deckOf (100 ∷ 105 ∷ 115 ∷ 116 ∷ 32 ∷ 49 ∷ 32 ∷ 49 ∷ 10 ∷ []) ≡ refused (refusal kind.CardOrder 1)
-unfolding deckOf cardsBy cardAt cardWith headGood numbersAt wordAt wordEnd inWord followsBy follows spells more goodAt pastAt tenthsAt wholeAt partCount partWorth partFrom pointAt countGood countAt worthAt digits worth digitAt
-deck-a-word-in-small-letters = refl
-
-pub deck-card-0 : deckOf (68 ∷ 73 ∷ 83 ∷ 84 ∷ 32 ∷ 48 ∷ 32 ∷ 49 ∷ 10 ∷ []) ≡ refused (refusal kind.CardOrder 1)
-unfolding deckOf cardsBy cardAt cardWith headGood numbersAt wordAt wordEnd inWord followsBy follows spells more goodAt pastAt tenthsAt wholeAt partCount partWorth partFrom pointAt countGood countAt worthAt digits worth digitAt
-deck-card-0 = refl
-
-pub deck-card-2-first : deckOf (68 ∷ 73 ∷ 83 ∷ 84 ∷ 32 ∷ 50 ∷ 32 ∷ 49 ∷ 10 ∷ []) ≡ refused (refusal kind.CardOrder 1)
-unfolding deckOf cardsBy cardAt cardWith headGood numbersAt wordAt wordEnd inWord followsBy follows spells more goodAt pastAt tenthsAt wholeAt partCount partWorth partFrom pointAt countGood countAt worthAt digits worth digitAt
-deck-card-2-first = refl
-
-pub deck-a-card-number-that-is-not-reset : deckOf (68 ∷ 73 ∷ 83 ∷ 84 ∷ 32 ∷ 49 ∷ 32 ∷ 49 ∷ 10 ∷ 68 ∷ 69 ∷ 80 ∷ 84 ∷ 72 ∷ 32 ∷ 50 ∷ 32 ∷ 49 ∷ 10 ∷ []) ≡ refused (refusal kind.CardOrder 2)
-unfolding deckOf cardsBy cardAt cardWith headGood numbersAt wordAt wordEnd inWord followsBy follows spells more goodAt pastAt tenthsAt wholeAt partCount partWorth partFrom pointAt countGood countAt worthAt digits worth digitAt
-deck-a-card-number-that-is-not-reset = refl
-
-pub deck-a-DIST-card-behind-DEPTH : deckOf (68 ∷ 73 ∷ 83 ∷ 84 ∷ 32 ∷ 49 ∷ 32 ∷ 49 ∷ 10 ∷ 68 ∷ 69 ∷ 80 ∷ 84 ∷ 72 ∷ 32 ∷ 49 ∷ 32 ∷ 49 ∷ 10 ∷ 68 ∷ 73 ∷ 83 ∷ 84 ∷ 32 ∷ 50 ∷ 32 ∷ 49 ∷ 10 ∷ []) ≡ refused (refusal kind.CardOrder 3)
-unfolding deckOf cardsBy cardAt cardWith headGood numbersAt wordAt wordEnd inWord followsBy follows spells more goodAt pastAt tenthsAt wholeAt partCount partWorth partFrom pointAt countGood countAt worthAt digits worth digitAt
-deck-a-DIST-card-behind-DEPTH = refl
-
-pub deck-hundredths : deckOf (68 ∷ 73 ∷ 83 ∷ 84 ∷ 32 ∷ 49 ∷ 32 ∷ 49 ∷ 10 ∷ 68 ∷ 73 ∷ 83 ∷ 84 ∷ 32 ∷ 50 ∷ 32 ∷ 49 ∷ 32 ∷ 46 ∷ 48 ∷ 53 ∷ 10 ∷ []) ≡ refused (refusal kind.CardUnit 2)
-unfolding deckOf cardsBy cardAt cardWith headGood numbersAt wordAt wordEnd inWord followsBy follows spells more goodAt pastAt tenthsAt wholeAt partCount partWorth partFrom pointAt countGood countAt worthAt digits worth digitAt
-deck-hundredths = refl
-
-pub deck-in-card-2-before-15 : deckOf (68 ∷ 73 ∷ 83 ∷ 84 ∷ 32 ∷ 50 ∷ 32 ∷ 49 ∷ 32 ∷ 10 ∷ []) ≡ refused (refusal kind.Malformed 1)
-unfolding deckOf cardsBy cardAt cardWith headGood numbersAt wordAt wordEnd inWord followsBy follows spells more goodAt pastAt tenthsAt wholeAt partCount partWorth partFrom pointAt countGood countAt worthAt digits worth digitAt
-deck-in-card-2-before-15 = refl
-
-pub deck-15-before-16 : deckOf (68 ∷ 73 ∷ 83 ∷ 84 ∷ 32 ∷ 50 ∷ 32 ∷ 46 ∷ 48 ∷ 53 ∷ 10 ∷ []) ≡ refused (refusal kind.CardOrder 1)
-unfolding deckOf cardsBy cardAt cardWith headGood numbersAt wordAt wordEnd inWord followsBy follows spells more goodAt pastAt tenthsAt wholeAt partCount partWorth partFrom pointAt countGood countAt worthAt digits worth digitAt
-deck-15-before-16 = refl
-
-pub deck-the-earliest-line-decides : deckOf (68 ∷ 73 ∷ 83 ∷ 84 ∷ 32 ∷ 49 ∷ 32 ∷ 46 ∷ 48 ∷ 53 ∷ 10 ∷ 68 ∷ 73 ∷ 83 ∷ 84 ∷ 32 ∷ 49 ∷ 32 ∷ 49 ∷ 32 ∷ 10 ∷ []) ≡ refused (refusal kind.CardUnit 1)
-unfolding deckOf cardsBy cardAt cardWith headGood numbersAt wordAt wordEnd inWord followsBy follows spells more goodAt pastAt tenthsAt wholeAt partCount partWorth partFrom pointAt countGood countAt worthAt digits worth digitAt
-deck-the-earliest-line-decides = refl
-
-pub deck-no-DIST-card : deckOf (68 ∷ 69 ∷ 80 ∷ 84 ∷ 72 ∷ 32 ∷ 49 ∷ 32 ∷ 53 ∷ 10 ∷ []) ≡ cards ([]) (50 ∷ [])
-unfolding deckOf cardsBy cardAt cardWith headGood numbersAt wordAt wordEnd inWord followsBy follows spells more goodAt pastAt tenthsAt wholeAt partCount partWorth partFrom pointAt countGood countAt worthAt digits worth digitAt
-deck-no-DIST-card = refl
-
--- ---- the call: document 01's listing; with room of a byte more, and of a byte less
-
-abbrev pub given : Head
+-- the given values of document 01's listing
+abbrev given : Head
 given = record { latitude = pos 300; friction = pos 25; initial = pos 0 }
 
-pub listing-whole : convertOf given (68 ∷ 73 ∷ 83 ∷ 84 ∷ 32 ∷ 49 ∷ 32 ∷ 49 ∷ 32 ∷ 46 ∷ 48 ∷ 10 ∷ 68 ∷ 69 ∷ 80 ∷ 84 ∷ 72 ∷ 32 ∷ 49 ∷ 32 ∷ 53 ∷ 48 ∷ 32 ∷ 53 ∷ 48 ∷ 10 ∷ []) (7 ∷ 7 ∷ 7 ∷ 7 ∷ 7 ∷ 7 ∷ 7 ∷ 7 ∷ 7 ∷ 7 ∷ 7 ∷ 7 ∷ 7 ∷ 7 ∷ 7 ∷ 7 ∷ 7 ∷ 7 ∷ 7 ∷ 7 ∷ 7 ∷ 7 ∷ 7 ∷ 7 ∷ 7 ∷ 7 ∷ 7 ∷ 7 ∷ 7 ∷ 7 ∷ 7 ∷ 7 ∷ 7 ∷ 7 ∷ 7 ∷ 7 ∷ 7 ∷ 7 ∷ 7 ∷ 7 ∷ 7 ∷ 7 ∷ 7 ∷ 7 ∷ 7 ∷ 7 ∷ 7 ∷ 7 ∷ 7 ∷ 7 ∷ 7 ∷ 7 ∷ 7 ∷ 7 ∷ 7 ∷ 7 ∷ 7 ∷ 7 ∷ 7 ∷ 7 ∷ 7 ∷ 7 ∷ 7 ∷ 7 ∷ []) ≡ leftDeck (Text 63) (108 ∷ 97 ∷ 116 ∷ 105 ∷ 116 ∷ 117 ∷ 100 ∷ 101 ∷ 32 ∷ 102 ∷ 114 ∷ 105 ∷ 99 ∷ 116 ∷ 105 ∷ 111 ∷ 110 ∷ 32 ∷ 105 ∷ 110 ∷ 105 ∷ 116 ∷ 105 ∷ 97 ∷ 108 ∷ 10 ∷ 51 ∷ 48 ∷ 48 ∷ 32 ∷ 50 ∷ 53 ∷ 32 ∷ 48 ∷ 10 ∷ 100 ∷ 105 ∷ 115 ∷ 116 ∷ 97 ∷ 110 ∷ 99 ∷ 101 ∷ 32 ∷ 100 ∷ 101 ∷ 112 ∷ 116 ∷ 104 ∷ 10 ∷ 49 ∷ 48 ∷ 32 ∷ 53 ∷ 48 ∷ 48 ∷ 10 ∷ 48 ∷ 32 ∷ 53 ∷ 48 ∷ 48 ∷ 10 ∷ 7 ∷ [])
-unfolding convertOf putText traverseText headLines pointLines pointLine written valuesLine signedText decimalOf digitsOf headOk inside deckOf cardsBy cardAt cardWith headGood numbersAt wordAt wordEnd inWord followsBy follows spells more goodAt pastAt tenthsAt wholeAt partCount partWorth partFrom pointAt countGood countAt worthAt digits worth digitAt
-listing-whole = refl
+-- the call
+pub record CallCases : Type 0 where
+  -- document 01's listing, with room for one byte more
+  whole : convertOf given (68 ∷ 73 ∷ 83 ∷ 84 ∷ 32 ∷ 49 ∷ 32 ∷ 49 ∷ 32 ∷ 46 ∷ 48 ∷ 10 ∷ 68 ∷ 69 ∷ 80 ∷ 84 ∷ 72 ∷ 32 ∷ 49 ∷ 32 ∷ 53 ∷ 48 ∷ 32 ∷ 53 ∷ 48 ∷ 10 ∷ []) (7 ∷ 7 ∷ 7 ∷ 7 ∷ 7 ∷ 7 ∷ 7 ∷ 7 ∷ 7 ∷ 7 ∷ 7 ∷ 7 ∷ 7 ∷ 7 ∷ 7 ∷ 7 ∷ 7 ∷ 7 ∷ 7 ∷ 7 ∷ 7 ∷ 7 ∷ 7 ∷ 7 ∷ 7 ∷ 7 ∷ 7 ∷ 7 ∷ 7 ∷ 7 ∷ 7 ∷ 7 ∷ 7 ∷ 7 ∷ 7 ∷ 7 ∷ 7 ∷ 7 ∷ 7 ∷ 7 ∷ 7 ∷ 7 ∷ 7 ∷ 7 ∷ 7 ∷ 7 ∷ 7 ∷ 7 ∷ 7 ∷ 7 ∷ 7 ∷ 7 ∷ 7 ∷ 7 ∷ 7 ∷ 7 ∷ 7 ∷ 7 ∷ 7 ∷ 7 ∷ 7 ∷ 7 ∷ 7 ∷ 7 ∷ []) ≡ leftDeck (Text 63) (108 ∷ 97 ∷ 116 ∷ 105 ∷ 116 ∷ 117 ∷ 100 ∷ 101 ∷ 32 ∷ 102 ∷ 114 ∷ 105 ∷ 99 ∷ 116 ∷ 105 ∷ 111 ∷ 110 ∷ 32 ∷ 105 ∷ 110 ∷ 105 ∷ 116 ∷ 105 ∷ 97 ∷ 108 ∷ 10 ∷ 51 ∷ 48 ∷ 48 ∷ 32 ∷ 50 ∷ 53 ∷ 32 ∷ 48 ∷ 10 ∷ 100 ∷ 105 ∷ 115 ∷ 116 ∷ 97 ∷ 110 ∷ 99 ∷ 101 ∷ 32 ∷ 100 ∷ 101 ∷ 112 ∷ 116 ∷ 104 ∷ 10 ∷ 49 ∷ 48 ∷ 32 ∷ 53 ∷ 48 ∷ 48 ∷ 10 ∷ 48 ∷ 32 ∷ 53 ∷ 48 ∷ 48 ∷ 10 ∷ 7 ∷ [])
+  -- with room for one byte less
+  short : convertOf given (68 ∷ 73 ∷ 83 ∷ 84 ∷ 32 ∷ 49 ∷ 32 ∷ 49 ∷ 32 ∷ 46 ∷ 48 ∷ 10 ∷ 68 ∷ 69 ∷ 80 ∷ 84 ∷ 72 ∷ 32 ∷ 49 ∷ 32 ∷ 53 ∷ 48 ∷ 32 ∷ 53 ∷ 48 ∷ 10 ∷ []) (7 ∷ 7 ∷ 7 ∷ 7 ∷ 7 ∷ 7 ∷ 7 ∷ 7 ∷ 7 ∷ 7 ∷ 7 ∷ 7 ∷ 7 ∷ 7 ∷ 7 ∷ 7 ∷ 7 ∷ 7 ∷ 7 ∷ 7 ∷ 7 ∷ 7 ∷ 7 ∷ 7 ∷ 7 ∷ 7 ∷ 7 ∷ 7 ∷ 7 ∷ 7 ∷ 7 ∷ 7 ∷ 7 ∷ 7 ∷ 7 ∷ 7 ∷ 7 ∷ 7 ∷ 7 ∷ 7 ∷ 7 ∷ 7 ∷ 7 ∷ 7 ∷ 7 ∷ 7 ∷ 7 ∷ 7 ∷ 7 ∷ 7 ∷ 7 ∷ 7 ∷ 7 ∷ 7 ∷ 7 ∷ 7 ∷ 7 ∷ 7 ∷ 7 ∷ 7 ∷ 7 ∷ 7 ∷ []) ≡ leftDeck (Refused (refusal kind.Lent 0)) (7 ∷ 7 ∷ 7 ∷ 7 ∷ 7 ∷ 7 ∷ 7 ∷ 7 ∷ 7 ∷ 7 ∷ 7 ∷ 7 ∷ 7 ∷ 7 ∷ 7 ∷ 7 ∷ 7 ∷ 7 ∷ 7 ∷ 7 ∷ 7 ∷ 7 ∷ 7 ∷ 7 ∷ 7 ∷ 7 ∷ 7 ∷ 7 ∷ 7 ∷ 7 ∷ 7 ∷ 7 ∷ 7 ∷ 7 ∷ 7 ∷ 7 ∷ 7 ∷ 7 ∷ 7 ∷ 7 ∷ 7 ∷ 7 ∷ 7 ∷ 7 ∷ 7 ∷ 7 ∷ 7 ∷ 7 ∷ 7 ∷ 7 ∷ 7 ∷ 7 ∷ 7 ∷ 7 ∷ 7 ∷ 7 ∷ 7 ∷ 7 ∷ 7 ∷ 7 ∷ 7 ∷ 7 ∷ [])
+  -- one depth and no distance: the count of distances, and before the room
+  unequal : convertOf given (68 ∷ 69 ∷ 80 ∷ 84 ∷ 72 ∷ 32 ∷ 49 ∷ 32 ∷ 53 ∷ 10 ∷ []) [] ≡ leftDeck (Refused (refusal kind.CardCounts 0)) []
+  -- the given values before a deck of no bytes
+  values-first : convertOf (record { latitude = pos 901; friction = pos 25; initial = pos 0 }) [] [] ≡ leftDeck (Refused (refusal kind.TraverseValue 0)) []
 
-pub listing-short : convertOf given (68 ∷ 73 ∷ 83 ∷ 84 ∷ 32 ∷ 49 ∷ 32 ∷ 49 ∷ 32 ∷ 46 ∷ 48 ∷ 10 ∷ 68 ∷ 69 ∷ 80 ∷ 84 ∷ 72 ∷ 32 ∷ 49 ∷ 32 ∷ 53 ∷ 48 ∷ 32 ∷ 53 ∷ 48 ∷ 10 ∷ []) (7 ∷ 7 ∷ 7 ∷ 7 ∷ 7 ∷ 7 ∷ 7 ∷ 7 ∷ 7 ∷ 7 ∷ 7 ∷ 7 ∷ 7 ∷ 7 ∷ 7 ∷ 7 ∷ 7 ∷ 7 ∷ 7 ∷ 7 ∷ 7 ∷ 7 ∷ 7 ∷ 7 ∷ 7 ∷ 7 ∷ 7 ∷ 7 ∷ 7 ∷ 7 ∷ 7 ∷ 7 ∷ 7 ∷ 7 ∷ 7 ∷ 7 ∷ 7 ∷ 7 ∷ 7 ∷ 7 ∷ 7 ∷ 7 ∷ 7 ∷ 7 ∷ 7 ∷ 7 ∷ 7 ∷ 7 ∷ 7 ∷ 7 ∷ 7 ∷ 7 ∷ 7 ∷ 7 ∷ 7 ∷ 7 ∷ 7 ∷ 7 ∷ 7 ∷ 7 ∷ 7 ∷ 7 ∷ []) ≡ leftDeck (Refused (refusal kind.Lent 0)) (7 ∷ 7 ∷ 7 ∷ 7 ∷ 7 ∷ 7 ∷ 7 ∷ 7 ∷ 7 ∷ 7 ∷ 7 ∷ 7 ∷ 7 ∷ 7 ∷ 7 ∷ 7 ∷ 7 ∷ 7 ∷ 7 ∷ 7 ∷ 7 ∷ 7 ∷ 7 ∷ 7 ∷ 7 ∷ 7 ∷ 7 ∷ 7 ∷ 7 ∷ 7 ∷ 7 ∷ 7 ∷ 7 ∷ 7 ∷ 7 ∷ 7 ∷ 7 ∷ 7 ∷ 7 ∷ 7 ∷ 7 ∷ 7 ∷ 7 ∷ 7 ∷ 7 ∷ 7 ∷ 7 ∷ 7 ∷ 7 ∷ 7 ∷ 7 ∷ 7 ∷ 7 ∷ 7 ∷ 7 ∷ 7 ∷ 7 ∷ 7 ∷ 7 ∷ 7 ∷ 7 ∷ 7 ∷ [])
+pub call-cases : CallCases
 unfolding convertOf putText traverseText headLines pointLines pointLine written valuesLine signedText decimalOf digitsOf headOk inside deckOf cardsBy cardAt cardWith headGood numbersAt wordAt wordEnd inWord followsBy follows spells more goodAt pastAt tenthsAt wholeAt partCount partWorth partFrom pointAt countGood countAt worthAt digits worth digitAt
-listing-short = refl
-
--- unequal counts, with the count of distances: before the room
-pub unequal : convertOf given (68 ∷ 69 ∷ 80 ∷ 84 ∷ 72 ∷ 32 ∷ 49 ∷ 32 ∷ 53 ∷ 10 ∷ []) [] ≡ leftDeck (Refused (refusal kind.CardCounts 0)) []
-unfolding convertOf putText traverseText headLines pointLines pointLine written valuesLine signedText decimalOf digitsOf headOk inside deckOf cardsBy cardAt cardWith headGood numbersAt wordAt wordEnd inWord followsBy follows spells more goodAt pastAt tenthsAt wholeAt partCount partWorth partFrom pointAt countGood countAt worthAt digits worth digitAt
-unequal = refl
-
--- the given values first of all
-pub latitude-first : convertOf (record { latitude = pos 901; friction = pos 25; initial = pos 0 }) [] [] ≡ leftDeck (Refused (refusal kind.TraverseValue 0)) []
-unfolding convertOf putText traverseText headLines pointLines pointLine written valuesLine signedText decimalOf digitsOf headOk inside deckOf cardsBy cardAt cardWith headGood numbersAt wordAt wordEnd inWord followsBy follows spells more goodAt pastAt tenthsAt wholeAt partCount partWorth partFrom pointAt countGood countAt worthAt digits worth digitAt
-latitude-first = refl
+call-cases = record {
+  whole = refl;
+  short = refl;
+  unequal = refl;
+  values-first = refl;
+}

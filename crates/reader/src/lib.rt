@@ -17,6 +17,9 @@ use records::{Kind, Refusal};
 pub use storm::{Next, RecordStep, StartStep, storm_start, storm_start_step};
 pub use traverse::{Known, Part, Progress, TraverseRead, TraverseStep, Whole, read_traverse};
 
+// The most digits of a value.
+const DIGITS: u64 = 9;
+
 // A place in a text, and how many lines stand before it.
 #[derive(Clone, Copy)]
 pub struct Cursor {
@@ -237,7 +240,7 @@ impl Cursor {
                 let mut value: u64 = 0;
                 let mut d = c.digit(s);
                 while d < 10 {
-                    if count == 9 {
+                    if count == DIGITS {
                         break 'lines refused(Kind::Malformed, c.line);
                     }
                     value = value * 10 + d;

@@ -125,7 +125,7 @@ loop-d-smaller c = omega (arith, scan-within c.loop-d.invariant.scan c.loop-d-te
 pub loop-d-preserved : goal.loop-d-preserved
 loop-d-preserved c = record {
   scan = scan-more c.loop-d.invariant.scan _ _ c.loop-d-test.true (omega (arith, c.loop-d.invariant.few)) (at_of c.past-c.ensures) c.digit-d-in-loop-d.ensures;
-  few = omega (arith, c.loop-d.invariant.few, c.if-count-eq9.false);
+  few = omega (arith, c.loop-d.invariant.few, c.if-count-eq-DIGITS.false);
   line = lineOf c.past-c.ensures ∙ c.loop-d.invariant.line;
 }
 
@@ -199,14 +199,14 @@ returns-then-c-s c =
     ∙ ap (λ (x : Lines). linesRead x (take c.lines.kept.next c.lines.out)) (sym c.refused.ensures))
     c.lines.invariant.keeping
 
-pub returns-then-count-eq9 : goal.returns-then-count-eq9
-returns-then-count-eq9 c =
+pub returns-then-count-eq-DIGITS : goal.returns-then-count-eq-DIGITS
+returns-then-count-eq-DIGITS c =
     fault _ _ _ _ _ _ _ _ _ _ _ _ _ _ _ c.lines.invariant.rest (omega (arith, c.lines.invariant.within, c.if-i-n.false)) c.if-c-s.false
     (at_of c.next_line-c.ensures) c.lines.invariant.same (c.loop-d.invariant.line ∙ lineOf c.past_sign-c.ensures ∙ c.loop-k.invariant.line ∙ lineOf c.next_line-c.ensures) (keeping-on c.lines.invariant.keeping c.loop-k.invariant.keeping)
-    _ c.refused-then-count-eq9.ensures
+    _ c.refused-then-count-eq-DIGITS.ensures
     (sym c.loop-k.invariant.rest
     ∙ values-bad _ _ _ _ _ _ _ _ _ (to-come c.args.width c.loop-k.k c.loop-k-test.true)
-    (long _ _ c.loop-d.invariant.scan (at_of c.past_sign-c.ensures) c.loop-d-test.true c.if-count-eq9.true))
+    (long _ _ c.loop-d.invariant.scan (at_of c.past_sign-c.ensures) c.loop-d-test.true c.if-count-eq-DIGITS.true))
 
 pub returns-then-not-closes : goal.returns-then-not-closes
 returns-then-not-closes c =
