@@ -15,6 +15,8 @@ import subprocess
 import sys
 import tempfile
 
+from explain import shown
+
 HOME = os.path.dirname(os.path.dirname(os.path.abspath(__file__)))
 TOOL = os.path.join(HOME, "tools", "deck")
 EXAMPLES = os.path.join(HOME, "examples", "decks")
@@ -182,16 +184,6 @@ def refusals():
     yield ("15 before 16", b"DIST 2 .01\n", 15, 1, (5, 5), ())
     yield ("the earlier line", b"DIST 1 .01\nDIST 3\n", 16, 1, None, ())
     yield ("a line before the counts", b"DIST 1 5\nDEPTH 1 5 6\nDEPTH 3 1\n", 15, 3, (6, 6), ())
-
-
-def shown(line):
-    """The line as it is shown, and the column of each byte and of its end."""
-    text, column = "", []
-    plain = {0: "\\0", 9: "\\t", 10: "", 13: "\\r"}
-    for byte in line[:100]:
-        column.append(len(text))
-        text += plain.get(byte, chr(byte) if 32 <= byte < 127 else "\\x%02X" % byte)
-    return text, column + [len(text)]
 
 
 def told_wrong(told, name, deck, number, place, mark, words):

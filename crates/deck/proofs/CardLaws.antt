@@ -16,8 +16,9 @@ use Rattle.deck.specs.Number.{countAt, worthAt, goodAt, pastAt, tenthsAt, wholeA
 use Rattle.deck.specs.Cards.{Numbers, numbers, misshapen, before, numbersAt, Card, card, noCard, headGood, wordAt, wordEnd, cardWith, cardAt, Cards, cards, afterCard, cardsBy}
 use Rattle.deck.proofs.NumberLaws.{number-past}
 
--- so many numbers from a place on have a byte each at least, and the line feed behind them stands in the text
+-- so many numbers from a place on, at least one, have a byte each at least, and the line feed behind them stands in the text
 pub record Spans (s : List ℕ) (at count past : ℕ) : Type 0 where
+  pub some : 0 < count
   pub ends : at + count < past
   pub within : past ≤ length s
 
@@ -36,12 +37,12 @@ numbers-past s (suc n) at ts w past e =
         let k : (tenthsAt s at ∷ []) ≡ ts = cc in
         let p : pastAt s at + 1 ≡ past = cc in
         let h = present s (pastAt s at) 10 (omega arith) (eqb-true _ _ a) in
-        record { ends = omega (arith, number-past s at g, ap length k); within = omega arith }
+        record { some = omega (arith, ap length k); ends = omega (arith, number-past s at g, ap length k); within = omega arith }
     go true g false a true (numbers us v to) e i =
         let k : (tenthsAt s at ∷ us) ≡ ts = cc in
         let p : to ≡ past = cc in
         let h = i us v to refl in
-        record { ends = omega (arith, number-past s at g, ap length k); within = omega arith }
+        record { some = omega (arith, ap length k); ends = omega (arith, number-past s at g, ap length k); within = omega arith }
     go true g false a true misshapen e i = absurd cc
     go true g false a false x e i = absurd cc
     go false g a p b x e i = absurd cc
@@ -57,7 +58,7 @@ card-past s at end word k ts w past e = go (headGood s at end) refl e
     go true b e =
         let n : numbersAt s 6 (end + 1 + countAt s (end + 1) + 1) ≡ numbers ts w past = cc in
         let h = numbers-past s 6 _ ts w past n in
-        record { ends = omega (arith, ltb-true at end (and_left (ltb at end) _ b)); within = omega arith }
+        record { some = h.some; ends = omega (arith, ltb-true at end (and_left (ltb at end) _ b)); within = omega arith }
     go false b e = absurd cc
 
 -- ---- the cards from a place on

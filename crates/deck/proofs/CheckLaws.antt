@@ -44,7 +44,7 @@ counted-past s n at x e = go (numbersAt s n at) refl e
         let k : record { count = 0 + length ts; whole = true && w; past = cursor past } ≡ x = cc in
         let a : 0 + length ts ≡ x.count = ap (λ (y : CardNumbers). y.count) k in
         let b : past ≡ x.past.at = ap (λ (y : CardNumbers). y.past.at) k in
-        record { ends = omega arith; within = omega arith }
+        record { some = omega arith; ends = omega arith; within = omega arith }
     go misshapen q e = absurd cc
 
 -- ---- a card

@@ -2,7 +2,7 @@
 use mathlib.Core.Path.{◌≡◌, refl, sym, ap, subst, ◌∙◌}
 use mathlib.Core.Bool.{Bool, true, false, cond, ◌&&◌}
 use mathlib.Core.List.{List, [], ◌∷◌, ◌++◌, append_assoc, append-nil}
-use Prim.Native.Nat.{ℕ, zero, suc, ◌+◌, ◌*◌, ◌^◌, ◌<◌, ◌≤◌}
+use Prim.Native.Nat.{ℕ, suc, ◌+◌, ◌*◌, ◌^◌, ◌<◌, ◌≤◌}
 use native.Mathlib.Omega.{arith}
 use lib.ListN.{length, take, drop, length-append}
 use lib.Seq.{take-append_seam}
@@ -23,7 +23,7 @@ use Rattle.records.proofs.GroupLaws.{wholes-times}
 use Rattle.listing.specs.Decimal.{signedText}
 use Rattle.listing.specs.Lines.{valuesLine}
 use Rattle.listing.specs.Put.{written}
-use Rattle.reader.specs.Text.{more, byte, closeOf}
+use Rattle.reader.specs.Text.{more, closeOf}
 use Rattle.reader.specs.Lines.{Outcome, read, refused, found, Leaves, namesAt}
 use Rattle.reader.specs.Traverse.{headNames, pointNames, Held, held, noHead, start, withValues, storedAt, withPoint, lineAt}
 use Rattle.reader.specs.Traverse.{countedBy, endAt, endOf, onRest, restAt, noPoints, traverseBy, traverseOf}
@@ -37,14 +37,14 @@ use Rattle.reader.proofs.TraverseLent.{stored-size, stored-at}
 use Rattle.deck.specs.declared.cards.Word.{Word}
 use Rattle.deck.specs.declared.cards.Word.TheVariants.{Dist, Depth, Other}
 use Rattle.deck.specs.declared.cards.Last.{Last}
-use Rattle.deck.specs.Number.{goodAt, pastAt, tenthsAt, wholeAt}
-use Rattle.deck.specs.Cards.{wordEnd, Numbers, numbers, misshapen, before, numbersAt, Card, card, noCard, headGood, cardWith, cardAt}
+use Rattle.deck.specs.Cards.{wordEnd, numbers, misshapen, Card, card, noCard, cardAt}
 use Rattle.deck.specs.Cards.{none, followsBy, follows, Cards, cards, refused as refusedDeck, inFront, afterCard, cardsBy, deckOf}
 use Rattle.deck.specs.declared.Converted.{Converted}
 use Rattle.deck.specs.declared.Converted.TheVariants.{Text, Refused}
 use Rattle.deck.specs.Deck.{pointLine, pointLines, headLines, traverseText, LeftDeck, leftDeck, putText, afterCards, convertOf}
 use Rattle.deck.specs.Reading.{paired, DeckIsRead}
 use Rattle.deck.proofs.Sizes.{Short}
+use Rattle.deck.proofs.CardLaws.{card-past}
 use Rattle.deck.proofs.WalkLaws.{deck-short, deck-few}
 use Rattle.deck.proofs.SpeltLaws.{From, from-start, from-past, Nine, lineText, AllNine, line-within, line-spelt, names-are}
 
@@ -227,35 +227,6 @@ text-is-read h ds hs o e f u p q =
 
 -- ---- a deck that was not refused has a number
 
-abbrev Some : Numbers → Type 0
-Some (numbers ts whole past) = 0 < length ts
-Some misshapen = Unit {0}
-
-numbers-some : (s : List ℕ) (n at : ℕ) → Some (numbersAt s n at)
-unfolding numbersAt
-numbers-some s zero at = tt
-numbers-some s (suc n) at = go (goodAt s at) (eqb (byte s (pastAt s at)) 10) (eqb (byte s (pastAt s at)) 32) (numbersAt s n (pastAt s at + 1))
-  where
-    go : (a b c : Bool) (x : Numbers)
-        → Some (cond a (cond b (numbers (tenthsAt s at ∷ []) (wholeAt s at) (pastAt s at + 1)) (cond c (before (tenthsAt s at) (wholeAt s at) x) misshapen)) misshapen)
-    go true true c x = omega arith
-    go true false true (numbers ts whole past) = omega arith
-    go true false true misshapen = tt
-    go true false false x = tt
-    go false b c x = tt
-
-abbrev SomeCard : Card → Type 0
-SomeCard (card word n x) = Some x
-SomeCard noCard = Unit {0}
-
-card-some : (s : List ℕ) (at : ℕ) → SomeCard (cardAt s at)
-unfolding cardAt cardWith
-card-some s at = go (headGood s at (wordEnd s (length s) at)) _ _ _ (numbers-some s 6 _)
-  where
-    go : (b : Bool) (w : Word) (n : ℕ) (x : Numbers) → Some x → SomeCard (cond b (card w n x) noCard)
-    go true w n x h = h
-    go false w n x h = tt
-
 abbrev SomeCards : Cards → Type 0
 SomeCards (cards ds hs) = 0 < length ds + length hs
 SomeCards (refusedDeck r) = Unit {0}
@@ -269,24 +240,27 @@ front-some Depth n e ts h (cards ds hs) = omega (arith, length-append ts hs)
 front-some Depth n e ts h (refusedDeck r) = tt
 front-some Other n e ts h x = absurd (never e)
 
-first-some : (c : Card) (line : ℕ) (next : Last → ℕ → ℕ → Cards) → SomeCard c → SomeCards (afterCard c none line next)
-unfolding follows
-first-some (card w n (numbers ts whole past)) line next h = go (followsBy Dist 0 w n) refl whole (next (record { word = w; number = n }) past line)
+first-some : (s : List ℕ) (c : Card) (line : ℕ) (next : Last → ℕ → ℕ → Cards) → cardAt s 0 ≡ c → SomeCards (afterCard c none line next)
+unfolding cardAt follows
+first-some s (card w n (numbers ts whole past)) line next q = go (followsBy Dist 0 w n) refl whole (next (record { word = w; number = n }) past line)
   where
+    some : 0 < length ts
+    some = (card-past s 0 (wordEnd s (length s) 0) w n ts whole past q).some
+
     go : (a : Bool) → followsBy Dist 0 w n ≡ a → (b : Bool) (x : Cards)
         → SomeCards (cond a (cond b (inFront w ts x) (refusedDeck (refusal kind.CardUnit line))) (refusedDeck (refusal kind.CardOrder line)))
-    go true e true x = front-some w n e ts h x
+    go true e true x = front-some w n e ts some x
     go true e false x = tt
     go false e b x = tt
-first-some (card w n misshapen) line next h = tt
-first-some noCard line next h = tt
+first-some s (card w n misshapen) line next q = tt
+first-some s noCard line next q = tt
 
 deck-some : (s : List ℕ) → SomeCards (deckOf s)
 unfolding deckOf cardsBy
 deck-some [] = tt
 deck-some (b ∷ s) =
     rw (ne_eqb (length (b ∷ s)) 0 (omega arith), lt-ltb 0 (length (b ∷ s)) (omega arith))
-    (first-some (cardAt (b ∷ s) 0) (more 0) (cardsBy (b ∷ s) (length s)) (card-some (b ∷ s) 0))
+    (first-some (b ∷ s) (cardAt (b ∷ s) 0) (more 0) (cardsBy (b ∷ s) (length s)) refl)
 
 -- ---- a call that wrote a text
 
