@@ -1,6 +1,8 @@
 -- What checks one after the other let pass, and that what is as it should be passes. Assumes nothing.
-use mathlib.Core.Path.{◌≡◌, refl}
+use mathlib.Core.Path.{◌≡◌, refl, sym, ap, ◌∙◌}
 use mathlib.Core.Bool.{Bool, true, false}
+use mathlib.Core.List.{List, [], ◌∷◌, ◌++◌}
+use mathlib.Core.Logic.{◌⊎◌, inl, inr}
 use native.Mathlib.Omega.{arith}
 use borrow.Author.Tests.{eqb-true}
 use Prim.Native.Nat.{ℕ, ◌<◌}
@@ -9,7 +11,7 @@ use Rattle.records.specs.declared.Check.TheVariants.{Pass, Fail}
 use Rattle.records.specs.declared.Kind.{Kind}
 use Rattle.records.specs.declared.Refusal.{Refusal}
 use Rattle.records.specs.Refusals.{refusal}
-use Rattle.records.specs.CheckOrder.{need, ◌then◌, firstBad, each}
+use Rattle.records.specs.CheckOrder.{need, ◌then◌, firstBad, each, firstOf, AllPass, FirstFails}
 use Rattle.records.proofs.FirstBad.{none-bad, all-ok}
 
 never : (refusal : Refusal) → Fail refusal ≡ Pass → ⊥
@@ -41,3 +43,46 @@ each-pass kind ok n f = rw (none_first ok n f)
 pub then-pass : (c : Check) → (c then Pass) ≡ c
 then-pass Pass = refl
 then-pass (Fail refusal) = refl
+
+-- ---- a list of checks
+
+-- where the list passes, each of it does
+pub first-passed : (l : List Check) → firstOf l ≡ Pass → AllPass l
+unfolding firstOf AllPass
+first-passed [] e = tt
+first-passed (c ∷ l) e = (then-left c (firstOf l) e, first-passed l (then-right c (firstOf l) e))
+
+-- and where each of it does, the list passes
+pub first-pass : (l : List Check) → AllPass l → firstOf l ≡ Pass
+unfolding firstOf AllPass
+first-pass [] v = refl
+first-pass (c ∷ l) v = rw v.0 (first-pass l v.1)
+
+-- one list behind the other
+pub first-append : (k l : List Check) → firstOf (k ++ l) ≡ (firstOf k then firstOf l)
+unfolding firstOf
+first-append [] l = refl
+first-append (Pass ∷ k) l = first-append k l
+first-append (Fail refusal ∷ k) l = refl
+
+pub first-left : (k l : List Check) → firstOf (k ++ l) ≡ Pass → firstOf k ≡ Pass
+first-left k l e = then-left (firstOf k) (firstOf l) (sym (first-append k l) ∙ e)
+
+pub first-right : (k l : List Check) → firstOf (k ++ l) ≡ Pass → firstOf l ≡ Pass
+first-right k l e = then-right (firstOf k) (firstOf l) (sym (first-append k l) ∙ e)
+
+-- the first that fails is what is answered
+pub first-fails : (l : List Check) (f : FirstFails l) → firstOf l ≡ Fail f.refusal
+unfolding firstOf
+first-fails l f = ap firstOf f.is ∙ first-append f.before (Fail f.refusal ∷ f.after) ∙ rw (first-pass f.before f.passed)
+
+-- all pass, or one is the first that fails
+pub all-or-first : (l : List Check) → AllPass l ⊎ FirstFails l
+unfolding AllPass
+all-or-first [] = inl tt
+all-or-first (Fail refusal ∷ l) = inr (record { refusal = refusal; before = []; after = l; is = refl; passed = tt })
+all-or-first (Pass ∷ l) = on (all-or-first l)
+  where
+    on : AllPass l ⊎ FirstFails l → AllPass (Pass ∷ l) ⊎ FirstFails (Pass ∷ l)
+    on (inl v) = inl (refl, v)
+    on (inr f) = inr (record { refusal = f.refusal; before = Pass ∷ f.before; after = f.after; is = ap (λ (k : List Check). Pass ∷ k) f.is; passed = (refl, f.passed) })

@@ -1,6 +1,6 @@
 -- The order of checks: the first that fails decides, and within it the first bad place. Every call checks what it is given by
 -- these, a row of the paper's table to a line.
-use Rattle.std.specs.Prelude.{Bool, true, false, cond, ℕ, zero, suc, ◌+◌, eqb}
+use Rattle.std.specs.Prelude.{◌≡◌, Bool, true, false, cond, List, [], ◌∷◌, ◌++◌, ℕ, zero, suc, ◌+◌, eqb}
 use Rattle.records.specs.declared.Check.{Check}
 use Rattle.records.specs.declared.Check.TheVariants.{Pass, Fail}
 use Rattle.records.specs.declared.Kind.{Kind}
@@ -26,3 +26,21 @@ firstBad ok (suc n) i = cond (ok i) (firstBad ok n (i + 1)) (i + 1)
 -- each of n places, or the refusal of a kind at the first bad one
 abbrev pub each : Kind → (ℕ → Bool) → ℕ → Check
 each kind ok n = need (eqb (firstBad ok n 0) 0) (refusal kind (firstBad ok n 0))
+
+-- ---- a list of checks, in their order
+
+unfoldable pub firstOf : List Check → Check
+firstOf [] = Pass
+firstOf (c ∷ l) = c then firstOf l
+
+unfoldable pub AllPass : List Check → Type 0
+AllPass [] = Unit {0}
+AllPass (c ∷ l) = (c ≡ Pass) × AllPass l
+
+-- the first that fails, which all before it let pass
+pub record FirstFails (l : List Check) : Type 0 where
+  pub refusal : Refusal
+  pub before : List Check
+  pub after : List Check
+  pub is : l ≡ before ++ (Fail refusal ∷ after)
+  pub passed : AllPass before

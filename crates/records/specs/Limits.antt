@@ -1,5 +1,5 @@
 -- The limits of document 01's table of quantities, once and by name, and what meets them. Both ends belong to a limit.
-use Rattle.std.specs.Prelude.{Bool, ◌&&◌, not, cond, ℕ, leb, ℤ, pos, negsuc}
+use Rattle.std.specs.Prelude.{Bool, ◌&&◌, ◌||◌, not, cond, ℕ, leb, ℤ, pos, negsuc}
 use Rattle.std.specs.Int.Signed.{lt_z, le_z}
 use Rattle.ranges.specs.declared.Range.{Range}
 use Rattle.records.specs.declared.Head.{Head}
@@ -85,6 +85,17 @@ deficitOk = inside (pos 0) (pos 300)
 
 unfoldable pub pointOk : Point → Bool
 pointOk p = windOk p.wind && (angleOk p.angle && deficitOk p.deficit)
+
+-- a wind of 0
+abbrev pub calm : ℤ → Bool
+calm = inside (pos 0) (pos 0)
+
+-- document 02, Q-4: "A wind of 0 must carry angle 0"
+abbrev pub directionOk : ℤ → ℤ → Bool
+directionOk wind angle = not (calm wind) || inside (pos 0) (pos 0) angle
+
+unfoldable pub calmOk : Point → Bool
+calmOk p = directionOk p.wind p.angle
 
 -- ---- a march
 

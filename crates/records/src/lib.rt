@@ -2,8 +2,9 @@
 // Nothing here is marched: reader, march and the calls for other languages all speak in these terms.
 #![tactic(auto)]
 
-ghost use Rattle.std.specs.Prelude.{◌≡◌};
-ghost use Rattle.records.specs.Refusals.{numberOf};
+ghost use Rattle.std.specs.Prelude.{◌≡◌, eqb};
+ghost use Rattle.records.specs.CheckOrder.{need};
+ghost use Rattle.records.specs.Refusals.{numberOf, refusal};
 ghost use Rattle.records.specs.Rows.{freshRow};
 
 pub mod groups;
@@ -84,7 +85,8 @@ impl Row {
 }
 
 // What is refused, by number. Checks 1 to 12 are document 01's: 1 to 4 those of a file's text, 5 to 7 of a traverse, 8 and 9 of a record,
-// 10 to 12 of the march. The others are document 02's: 13 and 14 of what a storm record is made from, 15 to 17 of a card deck.
+// 10 to 12 of the march. The others are document 02's: 13 and 14 of what a storm record is made from, 15 to 17 of a card deck,
+// 18 of a record.
 #[derive(Clone, Copy)]
 pub enum Kind {
     Names,
@@ -104,6 +106,7 @@ pub enum Kind {
     CardOrder,
     CardUnit,
     CardCounts,
+    CalmAngle,
 }
 
 impl Kind {
@@ -129,11 +132,13 @@ impl Kind {
             Kind::CardOrder => 15,
             Kind::CardUnit => 16,
             Kind::CardCounts => 17,
+            Kind::CalmAngle => 18,
         }
     }
 }
 
-// A refusal: its kind and its place, which is a line, a count of points, a point, a row or a segment, from 1; 0 where the papers say so.
+// A refusal: its kind and its place, which is a line, a point, a row or a segment, from 1, or a count, of points or of distances; 0 where
+// the papers say so.
 #[derive(Clone, Copy)]
 pub struct Refusal {
     pub kind: Kind,
@@ -155,4 +160,19 @@ impl Refusal {
 pub enum Check {
     Pass,
     Fail(Refusal),
+}
+
+impl Check {
+    // Whether a search found no bad place; where it did, the refusal of a kind there. Places count from 1, and 0 says that there is none.
+    pub fn first_bad(kind: Kind, place: usize) -> Self
+        ensures { result ≡ need (eqb place 0) (refusal kind place) }
+    {
+        if place == 0 {
+            return Check::Pass;
+        }
+        Check::Fail(Refusal {
+            kind: kind,
+            place: place,
+        })
+    }
 }

@@ -1,7 +1,7 @@
 // The limits of document 01's table of quantities, by name, and the tests against them. Both ends belong to a limit. Those of a row stand
 // with the row. `specs/Limits.antt` has the same numbers for the definitions.
 ghost use Rattle.std.specs.Prelude.{◌≡◌};
-ghost use Rattle.records.specs.Limits.{inside as insideOf, rangeInside, countOk, headOk, stationOk, pointOk, rowOk, secondsOk};
+ghost use Rattle.records.specs.Limits.{inside as insideOf, rangeInside, countOk, headOk, stationOk, pointOk, calm, calmOk, rowOk, secondsOk};
 
 use super::{Head, Point, Row, Station};
 use ranges::Range;
@@ -57,6 +57,11 @@ pub const WIND_HIGH: i64 = 2_000;
 pub const ANGLE_LOW: i64 = 0;
 
 pub const ANGLE_HIGH: i64 = 3_599;
+
+// The wind that is a calm, and the angle that it carries.
+pub const CALM: i64 = 0;
+
+pub const CALM_ANGLE: i64 = 0;
 
 pub const DEFICIT_LOW: i64 = 0;
 
@@ -138,6 +143,22 @@ pub fn point_ok(p: Point) -> bool
         return false;
     }
     inside(p.deficit, DEFICIT_LOW, DEFICIT_HIGH)
+}
+
+pub fn is_calm(wind: i64) -> bool
+    ensures { result ≡ calm wind }
+{
+    inside(wind, CALM, CALM)
+}
+
+// A calm has no direction: a wind of 0 carries angle 0.
+pub fn calm_ok(p: Point) -> bool
+    ensures { result ≡ calmOk p }
+{
+    if !is_calm(p.wind) {
+        return true;
+    }
+    inside(p.angle, CALM_ANGLE, CALM_ANGLE)
 }
 
 pub fn row_ok(v: Row) -> bool
