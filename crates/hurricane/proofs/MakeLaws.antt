@@ -1,6 +1,6 @@
 -- What the checks of a record that is to be made let pass, as plain facts, and what the call then leaves. Assumes nothing.
 use mathlib.Core.Path.{◌≡◌, refl, ap, ◌∙◌}
-use mathlib.Core.Bool.{true, ◌&&◌}
+use mathlib.Core.Bool.{Bool, true, false, ◌&&◌, ◌||◌, not, cond}
 use mathlib.Core.List.{List, ◌++◌}
 use native.Mathlib.Omega.{arith}
 use borrow.Author.Tests.{leb-true, ne_eqb}
@@ -8,17 +8,17 @@ use Prim.Native.Nat.{ℕ, ◌+◌, ◌-◌, ◌*◌, ◌≤◌, ◌<◌}
 use lib.Dec.{leb}
 use lib.ListN.{length, drop}
 use lib.IntN.{ℤ, pos, negsuc, nat_abs, ◌-ℤ◌}
-use lib.Signed.{◌<ℤ◌}
+use lib.Signed.{◌<ℤ◌, le_z_yes}
 use Rattle.ranges.proofs.Branches.{lt-true}
 use Rattle.records.specs.declared.Check.{Check}
 use Rattle.records.specs.declared.Check.TheVariants.{Pass, Fail}
 use Rattle.records.specs.declared.Closing.{Closing}
 use Rattle.records.specs.declared.Kind.TheVariants.{Lent, StormValue, WindRadii}
-use Rattle.records.specs.CheckOrder.{need, ◌then◌, each}
+use Rattle.records.specs.CheckOrder.{AllPass}
 use Rattle.records.specs.Groups.{pointAt, ofPoint, groups}
-use Rattle.records.specs.Limits.{countOk, mostPoints, windOk, angleOk, pointOk}
+use Rattle.records.specs.Limits.{inside, countOk, mostPoints, windOk, angleOk, pointOk, calm, directionOk, calmOk}
 use Rattle.records.specs.Refusals.{refusal}
-use Rattle.records.proofs.CheckOrderLaws.{need-passed, then-left, then-right, each-passed}
+use Rattle.records.proofs.CheckOrderLaws.{need-passed, each-passed, first-passed}
 use Rattle.records.proofs.GroupLaws.{groups-same, groups-length, groups-at, flat-length, point-flat}
 use Rattle.records.proofs.LimitLaws.{and_left, and_right, Between, between, within, sized}
 use Rattle.hurricane.specs.declared.Hurricane.{Hurricane}
@@ -26,10 +26,10 @@ use Rattle.hurricane.specs.declared.WindRow.{WindRow}
 use Rattle.hurricane.specs.declared.PlanePoint.{PlanePoint}
 use Rattle.hurricane.specs.Bounds.{DropIn, HurricaneIn, WindRowIn, WindsIn, PlanePointIn, SitesIn, TableIn}
 use Rattle.hurricane.specs.Factor.{TableRight}
-use Rattle.hurricane.specs.Field.{distanceOf, hundredthsOf, deficitOf, windOf, pointFor}
+use Rattle.hurricane.specs.Field.{distanceOf, hundredthsOf, deficitOf, windOf, angleFor, pointFor}
 use Rattle.hurricane.specs.Groups.{windCount, windRowAt, siteCount, planePointAt}
 use Rattle.hurricane.specs.Limits.{pressureOk, dropOk, pressuresOk, radiusOk, planeOk, hurricaneOk, windCountOk, windRadiusOk, windRowOk, planePointOk}
-use Rattle.hurricane.specs.Checks.{windRowsOk, sitesOk, risingOk, makeCheck}
+use Rattle.hurricane.specs.Checks.{windRowsOk, sitesOk, risingOk, makeChecks, makeCheck}
 use Rattle.hurricane.specs.Make.{Asked, asked, made, checkOf, pointMade, madeNumbers, afterCheck, makeOf}
 use Rattle.hurricane.proofs.FactorTable.{right-rule}
 use Rattle.hurricane.proofs.FieldLaws.{hundredths-place, share_in, wind-in}
@@ -94,28 +94,11 @@ pub record MakeIn (h : Hurricane) (winds sites : List ℤ) (room : ℕ) : Type 0
   pub fits : 3 * siteCount sites ≤ room
 
 module _ (h : Hurricane) (winds sites : List ℤ) (room : ℕ) where
-  abbrev numbers : Check
-  numbers = need (hurricaneOk h && (windCountOk (windCount winds) && countOk mostPoints (siteCount sites))) (refusal StormValue 0)
-
-  abbrev rows : Check
-  rows = each StormValue (windRowsOk winds) (windCount winds)
-
-  abbrev points : Check
-  points = each StormValue (sitesOk sites) (siteCount sites)
-
-  abbrev radii : Check
-  radii = each WindRadii (risingOk winds) (windCount winds)
-
-  abbrev last : Check
-  last = need (leb (3 * siteCount sites) room) (refusal Lent 0)
-
   pub make-in : makeCheck h winds sites room ≡ Pass → MakeIn h winds sites room
-  unfolding makeCheck windCountOk countOk
+  unfolding makeChecks AllPass windCountOk countOk
   make-in e =
-      let a = need-passed _ (refusal StormValue 0) (then-left numbers (rows then points then radii then last) e) in
-      let e₁ = then-right numbers (rows then points then radii then last) e in
-      let e₂ = then-right rows (points then radii then last) e₁ in
-      let e₃ = then-right points (radii then last) e₂ in
+      let all = first-passed (makeChecks h winds sites room) e in
+      let a = need-passed _ (refusal StormValue 0) all.0 in
       let w = windCount winds in
       let n = siteCount sites in
       let counts = and_right (hurricaneOk h) (windCountOk w && countOk mostPoints n) a in
@@ -124,13 +107,13 @@ module _ (h : Hurricane) (winds sites : List ℤ) (room : ℕ) where
         hurricane = hurricane-in h (and_left (hurricaneOk h) (windCountOk w && countOk mostPoints n) a);
         winds-in = record {
           some = leb-true 1 w (and_left (leb 1 w) (leb w 50) (and_left (windCountOk w) (countOk mostPoints n) counts));
-          rows = λ i l. wind-row-in (windRowAt winds i) (each-passed StormValue (windRowsOk winds) w (then-left rows (points then radii then last) e₁) i l);
-          rising = λ i l. rising winds i (each-passed WindRadii (risingOk winds) w (then-left radii last e₃) (i + 1) l);
+          rows = λ i l. wind-row-in (windRowAt winds i) (each-passed StormValue (windRowsOk winds) w all.1.0 i l);
+          rising = λ i l. rising winds i (each-passed WindRadii (risingOk winds) w all.1.1.1.0 (i + 1) l);
         };
-        sites_in = λ i l. plane-point-in (planePointAt sites i) (each-passed StormValue (sitesOk sites) n (then-left points (radii then last) e₂) i l);
+        sites_in = λ i l. plane-point-in (planePointAt sites i) (each-passed StormValue (sitesOk sites) n all.1.1.0 i l);
         from = leb-true 2 n (and_left (leb 2 n) (leb n 65) many);
         to = leb-true n 65 (and_right (leb 2 n) (leb n 65) many);
-        fits = leb-true (3 * n) room (need-passed _ (refusal Lent 0) (then-right radii last e₃));
+        fits = leb-true (3 * n) room (need-passed _ (refusal Lent 0) all.1.1.1.1.0);
       }
 
 -- ---- what the call leaves
@@ -168,6 +151,30 @@ table-in table r = record {
 
 -- ---- of what is made
 
+-- the angle beside a wind is within the limits of a record's
+angle-in : (wind angle : ℤ) → Between (pos 0) (pos 3599) angle → Between (pos 0) (pos 3599) (angleFor wind angle)
+angle-in wind angle h = go (calm wind)
+  where
+    go : (t : Bool) → Between (pos 0) (pos 3599) (cond t (pos 0) angle)
+    go true = record { from = le_z_yes tt; to = le_z_yes tt }
+    go false = h
+
+-- a wind of 0 carries angle 0
+direction-in : (wind angle : ℤ) → directionOk wind (angleFor wind angle) ≡ true
+unfolding inside
+direction-in wind angle = go (calm wind)
+  where
+    go : (t : Bool) → (not t || inside (pos 0) (pos 0) (cond t (pos 0) angle)) ≡ true
+    go true = refl
+    go false = refl
+
+-- every point passes check 18, whatever is given
+pub calm-in : (a : Asked) (i : ℕ) → calmOk (pointMade a i) ≡ true
+unfolding calmOk pointFor
+calm-in a i =
+    let p = planePointAt a.sites i in
+    direction-in (windOf a.winds (distanceOf a.hurricane.x a.hurricane.y p.x p.y)) p.angle
+
 -- every point is within the limits of a record's
 module _ (a : Asked) (limits : (m : ℕ) → m < 1001 → Between (pos 0) (pos 10000) (a.factor m)) (e : checkOf a ≡ Pass) where
   pub point-in : (i : ℕ) → i < siteCount a.sites → pointOk (pointMade a i) ≡ true
@@ -183,7 +190,7 @@ module _ (a : Asked) (limits : (m : ℕ) → m < 1001 → Between (pos 0) (pos 1
       let factor = limits m (hundredths-place a.hurricane.radius r h.radius-low h.radius-high) in
       rw (
         within (pos 0) (pos 2000) (windOf a.winds r) (wind-in a.winds v.winds-in r),
-        within (pos 0) (pos 3599) p.angle (record { from = q.angle-low; to = q.angle-high }),
+        within (pos 0) (pos 3599) _ (angle-in (windOf a.winds r) p.angle (record { from = q.angle-low; to = q.angle-high })),
         within (pos 0) (pos 300) _ (share_in (a.hurricane.edge -ℤ a.hurricane.central) (a.factor m) drop factor),
       )
 

@@ -1,10 +1,11 @@
--- The hurricane's field at a point of the plane: document 02, Q-1, a sentence to a line. `factor m` is e^(-m/100) in ten-thousandths.
+-- The hurricane's field at a point of the plane: document 02, Q-1, and Q-4 for a calm, a sentence to a line. `factor m` is e^(-m/100) in ten-thousandths.
 use Rattle.std.specs.Prelude.{cond, List, ℕ, zero, suc, ◌+◌, ◌-◌, ℤ, pos, nat_abs, ◌+ℤ◌, ◌-ℤ◌, ◌*ℤ◌}
 use Rattle.std.specs.Int.Signed.{lt_z}
 use Rattle.ranges.specs.Division.{floorDiv}
 use Rattle.ranges.specs.Range.{lesser}
 use Rattle.ranges.specs.Root.{rootOf}
 use Rattle.records.specs.declared.Point.{Point}
+use Rattle.records.specs.Limits.{calm}
 use Rattle.hurricane.specs.declared.Hurricane.{Hurricane}
 use Rattle.hurricane.specs.declared.WindRow.{WindRow}
 use Rattle.hurricane.specs.declared.PlanePoint.{PlanePoint}
@@ -36,11 +37,15 @@ windFrom winds r (suc k) i =
 unfoldable pub windOf : List ℤ → ℤ → ℤ
 windOf winds r = cond (lt_z r (windRowAt winds 0).radius) (windRowAt winds 0).wind (windFrom winds r (windCount winds - 1) 0)
 
--- what is made at a point at distance r: "Each point's angle is given"
+-- the angle beside a wind that is made: "Each point's angle is given", and of a wind of 0, Q-4: "a calm that Q-1 makes gets angle 0"
+abbrev pub angleFor : ℤ → ℤ → ℤ
+angleFor wind angle = cond (calm wind) (pos 0) angle
+
+-- what is made at a point at distance r
 abbrev pub pointBy : (ℕ → ℤ) → Hurricane → List ℤ → ℤ → ℤ → Point
 pointBy factor h winds angle r = record {
   wind = windOf winds r;
-  angle = angle;
+  angle = angleFor (windOf winds r) angle;
   deficit = deficitOf factor h.central h.edge (nat_abs (hundredthsOf h.radius r));
 }
 

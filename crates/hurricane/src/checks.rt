@@ -99,25 +99,16 @@ pub fn check_make(h: Hurricane, winds: &[i64], sites: &[i64], room: usize) -> Ch
         });
     }
     let row = bad_wind_row(winds, rows);
-    if row != 0 {
-        return Check::Fail(Refusal {
-            kind: Kind::StormValue,
-            place: row,
-        });
+    if let Check::Fail(refusal) = Check::first_bad(Kind::StormValue, row) {
+        return Check::Fail(refusal);
     }
     let point = bad_site(sites, points);
-    if point != 0 {
-        return Check::Fail(Refusal {
-            kind: Kind::StormValue,
-            place: point,
-        });
+    if let Check::Fail(refusal) = Check::first_bad(Kind::StormValue, point) {
+        return Check::Fail(refusal);
     }
     let fall = bad_radius(winds, rows);
-    if fall != 0 {
-        return Check::Fail(Refusal {
-            kind: Kind::WindRadii,
-            place: fall,
-        });
+    if let Check::Fail(refusal) = Check::first_bad(Kind::WindRadii, fall) {
+        return Check::Fail(refusal);
     }
     if room < Point::NUMBERS * points {
         return Check::Fail(Refusal {

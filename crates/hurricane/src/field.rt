@@ -3,13 +3,14 @@
 ghost use Rattle.std.specs.Prelude.{◌≡◌, ◌<◌, pos, nat_abs, ◌≤ℤ◌};
 ghost use Rattle.records.specs.Groups.{at};
 ghost use Rattle.hurricane.specs.Bounds.{ApartIn, DropIn, HurricaneIn, PlanePointIn, WindsIn, TableIn, BetweenRows};
-ghost use Rattle.hurricane.specs.Field.{distanceOf, hundredthsOf, deficitOf, straight, windOf, pointFor};
+ghost use Rattle.hurricane.specs.Field.{distanceOf, hundredthsOf, deficitOf, straight, windOf, angleFor, pointFor};
 
 use super::groups::wind_row_at;
 use super::{Hurricane, PlanePoint, WindRow};
 use ranges::{floor_div, whole_root};
 use records::Point;
 use records::groups::whole_groups;
+use records::limits::{CALM_ANGLE, is_calm};
 
 // The scale of the table.
 const WHOLE: i64 = 10_000;
@@ -87,6 +88,16 @@ pub fn wind_at(winds: &[i64], r: i64) -> i64
     end.wind
 }
 
+// The angle beside a wind: the one that was given, but 0 beside a calm, which check 18 asks for.
+pub fn angle_for(wind: i64, angle: i64) -> i64
+    ensures { result ≡ angleFor wind angle }
+{
+    if is_calm(wind) {
+        return CALM_ANGLE;
+    }
+    angle
+}
+
 // What the record has at a point.
 pub fn point_for(table: &[i64], h: Hurricane, winds: &[i64], p: PlanePoint) -> Point
     requires { (TableIn table.now) × (HurricaneIn h × (WindsIn winds.now × PlanePointIn p)) }
@@ -96,9 +107,10 @@ pub fn point_for(table: &[i64], h: Hurricane, winds: &[i64], p: PlanePoint) -> P
     let m = hundredths(h.radius, r);
     let wind = wind_at(winds, r);
     let deficit = deficit(table, h.central, h.edge, m);
+    let angle = angle_for(wind, p.angle);
     Point {
         wind: wind,
-        angle: p.angle,
+        angle: angle,
         deficit: deficit,
     }
 }

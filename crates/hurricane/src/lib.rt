@@ -38,7 +38,8 @@ impl WindRow {
     pub const NUMBERS: usize = 2;
 }
 
-// A point of the traverse in the plane, in 0.1 mile, and the angle of the wind there in 0.1 degree.
+// A point of the traverse in the plane, in 0.1 mile, and the angle of the wind there in 0.1 degree, judged beside a calm too, though a
+// calm gets angle 0.
 #[derive(Clone, Copy)]
 pub struct PlanePoint {
     pub x: i64,

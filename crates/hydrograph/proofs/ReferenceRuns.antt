@@ -14,20 +14,20 @@ use Rattle.ranges.specs.Quotient.{quotientLow, quotientHigh}
 use Rattle.ranges.specs.Damped.{dampedOf, dampedLeast, dampedMost, dampedLow, dampedHigh, dampedFloor, dampedCeil}
 use Rattle.records.specs.declared.Check.{Check}
 use Rattle.records.specs.declared.Check.TheVariants.{Pass, Fail}
-use Rattle.records.specs.CheckOrder.{firstBad}
+use Rattle.records.specs.CheckOrder.{firstBad, firstOf}
 use Rattle.forcing.specs.Sine.{scaledSine, sineEntry}
 use Rattle.forcing.specs.Quadrant.{sineOf, cosineOf}
 use Rattle.forcing.specs.Stress.{stressOf, crossOf, onshoreOf}
 use Rattle.forcing.specs.Force.{forceOf}
 use Rattle.records.specs.Groups.{wholes, stationAt, putStation, pointAt, rowAt, groups, flat}
-use Rattle.records.specs.Limits.{inside, rangeInside, countOk, headOk, stationOk, secondsOk, pointOk, rowOk}
+use Rattle.records.specs.Limits.{inside, rangeInside, countOk, headOk, stationOk, secondsOk, pointOk, calmOk, rowOk}
 use Rattle.records.specs.Refusals.{numberOf}
 use Rattle.records.specs.Rows.{freshRow}
 use Rattle.records.specs.Shapes.{storm}
 use Rattle.segment.specs.declared.SegmentAnswer.{SegmentAnswer}
 use Rattle.segment.specs.declared.SegmentAnswer.TheVariants.{On, Stop}
 use Rattle.segment.specs.Segment.{depthOf, fluxOf, gainOf, nextSetup, segmentOf, shoreBase}
-use Rattle.march.specs.Checks.{spacingOk, traverseCheck, openOf, placesOk, lentCheck, timesOk, recordCheck, checksOf}
+use Rattle.march.specs.Checks.{spacingOk, traverseChecks, openOf, placesOk, lentChecks, timesOk, recordChecks, recordCheck, checksOf}
 use Rattle.march.specs.March.{marchBy, segmentAt}
 use Rattle.march.specs.Take.{takeOf}
 use Rattle.listing.specs.Decimal.{digitsOf, decimalOf, signedText}
@@ -238,7 +238,7 @@ ourRuns =
 -- ---- the facts
 
 all_runs : Agree referenceRuns × Agree ourRuns
-unfolding ◌/F◌ lesser greater nearest quotientLow quotientHigh dampedLeast dampedMost dampedLow dampedHigh dampedFloor dampedCeil scaledSine sineEntry sineOf cosineOf stressOf crossOf onshoreOf forceOf wholes stationAt putStation pointAt rowAt groups flat inside rangeInside countOk headOk stationOk secondsOk pointOk rowOk depthOf fluxOf gainOf nextSetup segmentOf shoreBase firstBad spacingOk traverseCheck openOf placesOk lentCheck timesOk recordCheck checksOf marchBy segmentAt takeOf digitsOf decimalOf signedText valuesLine refusedLine more digitAt digits worth goodOf signedValue startAt goodAt valueAt pastAt closeOf repeated keptWith sameWith valuesAt linesAt spells namesAt stormStart recordOf nextAt recordsBy stormRest stormOf start withValues storedAt withPoint lineAt countedBy endAt restBy restAt traverseOf hydrographLines listingOf
+unfolding ◌/F◌ lesser greater nearest quotientLow quotientHigh dampedLeast dampedMost dampedLow dampedHigh dampedFloor dampedCeil scaledSine sineEntry sineOf cosineOf stressOf crossOf onshoreOf forceOf wholes stationAt putStation pointAt rowAt groups flat inside rangeInside countOk headOk stationOk secondsOk pointOk rowOk depthOf fluxOf gainOf nextSetup segmentOf shoreBase firstBad spacingOk firstOf traverseChecks openOf placesOk lentChecks timesOk recordChecks checksOf calmOk marchBy segmentAt takeOf digitsOf decimalOf signedText valuesLine refusedLine more digitAt digits worth goodOf signedValue startAt goodAt valueAt pastAt closeOf repeated keptWith sameWith valuesAt linesAt spells namesAt stormStart recordOf nextAt recordsBy stormRest stormOf start withValues storedAt withPoint lineAt countedBy endAt restBy restAt traverseOf hydrographLines listingOf
 all_runs = (refl, refl)
 
 -- the paper's table

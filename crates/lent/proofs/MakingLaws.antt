@@ -11,11 +11,11 @@ use lib.IntN.{ℤ, pos}
 use Rattle.records.specs.declared.Check.{Check}
 use Rattle.records.specs.declared.Check.TheVariants.{Pass, Fail}
 use Rattle.records.specs.declared.Closing.{Closing}
-use Rattle.records.specs.declared.Kind.TheVariants.{RecordValue}
+use Rattle.records.specs.declared.Kind.TheVariants.{RecordValue, CalmAngle}
 use Rattle.records.specs.declared.Refusal.{Refusal}
-use Rattle.records.specs.CheckOrder.{need}
+use Rattle.records.specs.CheckOrder.{need, firstOf}
 use Rattle.records.specs.Groups.{wholes, pointAt}
-use Rattle.records.specs.Limits.{pointOk}
+use Rattle.records.specs.Limits.{pointOk, calmOk}
 use Rattle.records.specs.Refusals.{numberOf, refusal}
 use Rattle.records.specs.Shapes.{storm}
 use Rattle.records.proofs.CheckOrderLaws.{each-pass, then-pass}
@@ -28,8 +28,8 @@ use Rattle.hurricane.specs.Factor.{factorEntry}
 use Rattle.hurricane.specs.Groups.{siteCount}
 use Rattle.hurricane.specs.Make.{Asked, asked, LeftMade, checkOf, madeNumbers, afterCheck, makeOf, leftBy}
 use Rattle.hurricane.proofs.FactorTable.{entry-rule}
-use Rattle.hurricane.proofs.MakeLaws.{point-in, made-length, made-point}
-use Rattle.march.specs.Checks.{timesOk, pointsOk, recordCheck}
+use Rattle.hurricane.proofs.MakeLaws.{point-in, calm-in, made-length, made-point}
+use Rattle.march.specs.Checks.{timesOk, pointsOk, calmsOk, recordChecks}
 use Rattle.lent.specs.Numbers.{answerNumbers, refusedAnswer, wrongBuffer}
 use Rattle.lent.specs.Making.{LeftMake, leftMake, afterMade, makeWith, makeCall, Takeable, MadeTakeable}
 
@@ -77,12 +77,16 @@ module _ (a : Asked) (limits : (m : ℕ) → m < 1001 → Between (pos 0) (pos 1
   points-ok : (i : ℕ) → i < n → pointOk (pointAt (madeNumbers a) i) ≡ true
   points-ok i h = rw (made-point a limits v.all i h) (point-in a limits v.all i h)
 
+  calms-ok : (i : ℕ) → i < n → calmOk (pointAt (madeNumbers a) i) ≡ true
+  calms-ok i h = rw (made-point a limits v.all i h) (calm-in a i)
+
   made-takeable : Takeable n (storm a.closing (madeNumbers a))
-  unfolding recordCheck
+  unfolding recordChecks firstOf
   made-takeable = record {
     count = ap (wholes 3) (made-length a limits v.all) ∙ wholes-times 3 n (omega arith);
     points = points-ok;
-    check = λ st. rw (each-pass RecordValue (pointsOk (madeNumbers a)) n points-ok) (then-pass (need (timesOk a.closing st) (refusal RecordValue 0)));
+    calms = calms-ok;
+    check = λ st. rw (each-pass RecordValue (pointsOk (madeNumbers a)) n points-ok, each-pass CalmAngle (calmsOk (madeNumbers a)) n calms-ok) (then-pass (need (timesOk a.closing st) (refusal RecordValue 0)));
   }
 
   takeable : Takeable n (storm a.closing (take (3 * n) left.storm))

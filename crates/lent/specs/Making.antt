@@ -1,11 +1,12 @@
 -- The call that makes a storm record, whatever it is given: what is returned, and everything that was lent. It is `hurricane`'s own definition
--- (`makeOf`), with numbers for its values. `Makes` is the promise itself. And the statement that what it made passes the march's check 9.
+-- (`makeOf`), with numbers for its values. `Makes` is the promise itself. And the statement that what it made passes the march's checks 9
+-- and 18.
 use Rattle.std.specs.Prelude.{◌≡◌, true, cond, List, ℕ, ◌*◌, ◌<◌, eqb, length, take, ℤ, pos}
 use Rattle.records.specs.declared.Closing.{Closing}
 use Rattle.records.specs.declared.Kind.TheVariants.{RecordValue}
 use Rattle.records.specs.CheckOrder.{need}
 use Rattle.records.specs.Groups.{pointCount, pointAt}
-use Rattle.records.specs.Limits.{pointOk}
+use Rattle.records.specs.Limits.{pointOk, calmOk}
 use Rattle.records.specs.Refusals.{refusal}
 use Rattle.records.specs.Shapes.{Record, storm}
 use Rattle.hurricane.specs.Factor.{factorEntry}
@@ -49,10 +50,11 @@ Makes central edge radius x y seconds tide winds sites storm answer left = left 
 abbrev pub recordMade : ℤ → ℤ → List ℤ → LeftMake → Record
 recordMade seconds tide sites left = storm (record { seconds = seconds; tide = tide }) (take (3 * siteCount sites) left.storm)
 
--- "what it makes passes check 9 but for seconds, tide and elapsed time": the march's own check 9 is left with its place 0
+-- what it makes passes checks 9 and 18 but for seconds, tide and elapsed time: of the march's own checks of a record, place 0 of 9 is left
 pub record Takeable (n : ℕ) (r : Record) : Type 0 where
   pub count : pointCount r.points ≡ n
   pub points : (i : ℕ) → i < n → pointOk (pointAt r.points i) ≡ true
+  pub calms : (i : ℕ) → i < n → calmOk (pointAt r.points i) ≡ true
   pub check : (st : State) → recordCheck n r st ≡ need (timesOk r.closing st) (refusal RecordValue 0)
 
 -- of every call that keeps the promise and made a record

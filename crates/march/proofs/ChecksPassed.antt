@@ -1,7 +1,7 @@
 -- What the checks let pass, as plain facts, and that whatever meets these facts passes. Assumes nothing.
-use mathlib.Core.Path.{◌≡◌, refl, sym, ap}
+use mathlib.Core.Path.{◌≡◌, refl, sym, ap, ◌∙◌}
 use mathlib.Core.Bool.{Bool, true, false, ◌&&◌, ◌||◌, not}
-use mathlib.Core.List.{List, [], ◌∷◌}
+use mathlib.Core.List.{List, [], ◌∷◌, ◌++◌}
 use mathlib.Core.Logic.{◌⊎◌, inl, inr}
 use native.Mathlib.Omega.{arith}
 use borrow.Author.Tests.{eqb-true, eqb-false, leb-true, le-leb, eq-eqb, ne_eqb, not-false}
@@ -12,21 +12,22 @@ use lib.Signed.{le_z, ◌≤ℤ◌}
 use Rattle.ranges.specs.Bounds.{Sized}
 use Rattle.ranges.proofs.Branches.{le-true}
 use Rattle.ranges.proofs.LinearSolver.{zomega, says, ◌&◌}
+use Rattle.records.specs.declared.Check.{Check}
 use Rattle.records.specs.declared.Check.TheVariants.{Pass}
 use Rattle.records.specs.declared.Station.{Station}
 use Rattle.records.specs.declared.Point.{Point}
 use Rattle.records.specs.declared.Row.{Row}
-use Rattle.records.specs.declared.Kind.TheVariants.{Points, TraverseValue, Distance, Lent, RecordValue}
+use Rattle.records.specs.declared.Kind.TheVariants.{Points, TraverseValue, Distance, Lent, RecordValue, CalmAngle}
 use Rattle.records.specs.Refusals.{refusal}
-use Rattle.records.specs.CheckOrder.{need, ◌then◌, each}
+use Rattle.records.specs.CheckOrder.{◌then◌, firstOf, AllPass}
 use Rattle.records.specs.Groups.{stationAt, pointCount, pointAt, rowCount, rowAt}
 use Rattle.records.specs.Rows.{rowFlux}
 use Rattle.records.specs.Shapes.{Traverse, Record, count}
-use Rattle.records.specs.Limits.{inside, countOk, latitudeOk, frictionOk, initialOk, headOk, distanceOk, bedOk, stationOk, lengthOk, shoreOk, tideOk, secondsOk, elapsedOk, windOk, angleOk, deficitOk, pointOk, fluxOk, crossOk, rowOk}
+use Rattle.records.specs.Limits.{inside, countOk, latitudeOk, frictionOk, initialOk, headOk, distanceOk, bedOk, stationOk, lengthOk, shoreOk, tideOk, secondsOk, elapsedOk, windOk, angleOk, deficitOk, pointOk, calm, calmOk, fluxOk, crossOk, rowOk}
 use Rattle.records.proofs.LimitLaws.{and_left, and_right, and_both, le-flag, Between, between, within, range-between, range-within}
-use Rattle.records.proofs.CheckOrderLaws.{need-passed, then-left, then-right, each-passed, none_first}
+use Rattle.records.proofs.CheckOrderLaws.{need-passed, each-passed, none_first, first-passed, first-append, first-left, first-right}
 use Rattle.march.specs.declared.State.{State}
-use Rattle.march.specs.Checks.{stationsOk, spacingOk, traverseCheck, placesOk, rowsOk, lentCheck, timesOk, pointsOk, recordCheck, checksOf}
+use Rattle.march.specs.Checks.{stationsOk, spacingOk, traverseChecks, traverseCheck, placesOk, rowsOk, lentChecks, lentCheck, timesOk, pointsOk, calmsOk, recordChecks, recordCheck, checksOf}
 
 -- ---- flags
 
@@ -120,19 +121,14 @@ spacing-ok most t v i h =
         at_zero (stationAt t.points i).distance (rw back at v.shore)
 
 pub traverse-in : (most : ℕ) (t : Traverse) → traverseCheck most t ≡ Pass → TraverseIn most t
-unfolding traverseCheck countOk headOk
+unfolding traverseChecks AllPass countOk headOk
 traverse-in most t e =
-    let many = need (countOk most (count t)) (refusal Points (count t)) in
-    let values = need (headOk t.head) (refusal TraverseValue 0) in
-    let stations = each TraverseValue (stationsOk t.points) (count t) in
-    let apart-ok = each Distance (spacingOk (count t) t.points) (count t) in
-    let a = need-passed (countOk most (count t)) (refusal Points (count t)) (then-left many (values then (stations then apart-ok)) e) in
-    let e₁ = then-right many (values then (stations then apart-ok)) e in
-    let b = need-passed (headOk t.head) (refusal TraverseValue 0) (then-left values (stations then apart-ok) e₁) in
+    let all = first-passed (traverseChecks most t) e in
+    let a = need-passed (countOk most (count t)) (refusal Points (count t)) all.0 in
+    let b = need-passed (headOk t.head) (refusal TraverseValue 0) all.1.0 in
     let b₁ = and_right (latitudeOk t.head.latitude) (frictionOk t.head.friction && initialOk t.head.initial) b in
-    let e₂ = then-right values (stations then apart-ok) e₁ in
-    let ok = each-passed TraverseValue (stationsOk t.points) (count t) (then-left stations apart-ok e₂) in
-    let apart = each-passed Distance (spacingOk (count t) t.points) (count t) (then-right stations apart-ok e₂) in
+    let ok = each-passed TraverseValue (stationsOk t.points) (count t) all.1.1.0 in
+    let apart = each-passed Distance (spacingOk (count t) t.points) (count t) all.1.1.1.0 in
     let two : 2 ≤ count t = leb-true 2 (count t) (and_left (leb 2 (count t)) (leb (count t) most) a) in
     record {
       from = two;
@@ -146,7 +142,7 @@ traverse-in most t e =
     }
 
 pub traverse-passes : (most : ℕ) (t : Traverse) → TraverseIn most t → traverseCheck most t ≡ Pass
-unfolding traverseCheck countOk headOk
+unfolding traverseChecks firstOf countOk headOk
 traverse-passes most t v =
     rw (
       le-leb 2 (count t) v.from,
@@ -206,22 +202,20 @@ places-cases places n e = go (eqb places 0) refl e
 
 module _ (points given : ℕ) (rows : List ℤ) (places : ℕ) where
   pub lent-in : lentCheck points given rows places ≡ Pass → LentIn points given rows places
-  unfolding lentCheck
+  unfolding lentChecks AllPass
   lent-in e =
-      let counts = eqb (rowCount rows) (points - 1) && (eqb given points && placesOk places (points - 1)) in
-      let first = need counts (refusal Lent 0) in
-      let each-one = each Lent (rowsOk rows) (points - 1) in
-      let a = need-passed counts (refusal Lent 0) (then-left first each-one e) in
+      let all = first-passed (lentChecks points given rows places) e in
+      let a = need-passed (eqb (rowCount rows) (points - 1) && (eqb given points && placesOk places (points - 1))) (refusal Lent 0) all.0 in
       let b = and_right (eqb (rowCount rows) (points - 1)) (eqb given points && placesOk places (points - 1)) a in
       record {
         rows_are = eqb-true (rowCount rows) (points - 1) (and_left (eqb (rowCount rows) (points - 1)) (eqb given points && placesOk places (points - 1)) a);
         given_is = eqb-true given points (and_left (eqb given points) (placesOk places (points - 1)) b);
         places-are = and_right (eqb given points) (placesOk places (points - 1)) b;
-        each_row = λ i h. row_in (rowAt rows i) (each-passed Lent (rowsOk rows) (points - 1) (then-right first each-one e) i h);
+        each_row = λ i h. row_in (rowAt rows i) (each-passed Lent (rowsOk rows) (points - 1) all.1.0 i h);
       }
 
   pub lent-passes : LentIn points given rows places → lentCheck points given rows places ≡ Pass
-  unfolding lentCheck
+  unfolding lentChecks firstOf
   lent-passes v =
       rw (
         eq-eqb (rowCount rows) (points - 1) v.rows_are,
@@ -277,6 +271,15 @@ module _ (p : Point) where
   unfolding pointOk
   point-ok h = rw (within (pos 0) (pos 2000) p.wind h.wind, within (pos 0) (pos 3599) p.angle h.angle, within (pos 0) (pos 300) p.deficit h.deficit)
 
+-- a calm has no direction
+calm-in : (p : Point) → calmOk p ≡ true → p.wind ≡ pos 0 → p.angle ≡ pos 0
+unfolding calmOk
+calm-in p e q = zero-only p.angle (between (pos 0) (pos 0) p.angle (or_right (not (calm p.wind)) _ (ap not (at_zero p.wind q)) e))
+
+calm-ok : (p : Point) → (p.wind ≡ pos 0 → p.angle ≡ pos 0) → calmOk p ≡ true
+unfolding calmOk
+calm-ok p f = or_else (not (calm p.wind)) _ (λ e. at_zero p.angle (f (zero-only p.wind (between (pos 0) (pos 0) p.wind (not-false _ e)))))
+
 pub record RecordIn (n : ℕ) (r : Record) (st : State) : Type 0 where
   pub seconds : Between (pos 0) (pos 3600) r.closing.seconds
   pub first : st.started ≡ false → r.closing.seconds ≡ pos 0
@@ -285,18 +288,18 @@ pub record RecordIn (n : ℕ) (r : Record) (st : State) : Type 0 where
   pub elapsed : Between (pos 0) (pos 1000000000) st.elapsed
   pub new-elapsed : Between (pos 0) (pos 1000000000) (st.elapsed +ℤ r.closing.seconds)
   pub points : (i : ℕ) → i < n → PointIn (pointAt r.points i)
+  pub calms : (i : ℕ) → i < n → (pointAt r.points i).wind ≡ pos 0 → (pointAt r.points i).angle ≡ pos 0
 
 module _ (n : ℕ) (r : Record) (st : State) where
   pub record-in : recordCheck n r st ≡ Pass → RecordIn n r st
-  unfolding recordCheck timesOk
+  unfolding recordChecks AllPass timesOk
   record-in e =
       let s = secondsOk st.started r.closing.seconds in
       let u = tideOk r.closing.tide in
       let x = elapsedOk st.elapsed in
       let y = elapsedOk (st.elapsed +ℤ r.closing.seconds) in
-      let times = need (timesOk r.closing st) (refusal RecordValue 0) in
-      let each-one = each RecordValue (pointsOk r.points) n in
-      let a = need-passed (timesOk r.closing st) (refusal RecordValue 0) (then-left times each-one e) in
+      let all = first-passed (recordChecks n r st) e in
+      let a = need-passed (timesOk r.closing st) (refusal RecordValue 0) all.0 in
       let a₁ = and_right s (u && (x && y)) a in
       let a₂ = and_right u (x && y) a₁ in
       let ok = and_left s (u && (x && y)) a in
@@ -307,11 +310,12 @@ module _ (n : ℕ) (r : Record) (st : State) where
         tide = between (negsuc 1999) (pos 2000) r.closing.tide (and_left u (x && y) a₁);
         elapsed = between (pos 0) (pos 1000000000) st.elapsed (and_left x y a₂);
         new-elapsed = between (pos 0) (pos 1000000000) (st.elapsed +ℤ r.closing.seconds) (and_right x y a₂);
-        points = λ i h. point-in (pointAt r.points i) (each-passed RecordValue (pointsOk r.points) n (then-right times each-one e) i h);
+        points = λ i h. point-in (pointAt r.points i) (each-passed RecordValue (pointsOk r.points) n all.1.0 i h);
+        calms = λ i h. calm-in (pointAt r.points i) (each-passed CalmAngle (calmsOk r.points) n all.1.1.0 i h);
       }
 
   pub record-passes : RecordIn n r st → recordCheck n r st ≡ Pass
-  unfolding recordCheck timesOk
+  unfolding recordChecks firstOf timesOk
   record-passes v =
       rw (
         seconds-ok st.started r.closing.seconds v.seconds.to v.first v.later,
@@ -319,6 +323,7 @@ module _ (n : ℕ) (r : Record) (st : State) where
         within (pos 0) (pos 1000000000) st.elapsed v.elapsed,
         within (pos 0) (pos 1000000000) (st.elapsed +ℤ r.closing.seconds) v.new-elapsed,
         none_first (pointsOk r.points) n (λ i h. point-ok (pointAt r.points i) (v.points i h)),
+        none_first (calmsOk r.points) n (λ i h. calm-ok (pointAt r.points i) (v.calms i h)),
       )
 
 -- ---- all of them
@@ -329,20 +334,27 @@ pub record Passed (most : ℕ) (t : Traverse) (r : Record) (st : State) (rows : 
   pub values : RecordIn (count t) r st
 
 module _ (most : ℕ) (t : Traverse) (r : Record) (st : State) (rows : List ℤ) (places : ℕ) where
-  pub passed : checksOf most t r st rows places ≡ Pass → Passed most t r st rows places
+  abbrev lent : List Check
+  lent = lentChecks (count t) (pointCount r.points) rows places
+
+  abbrev values : List Check
+  values = recordChecks (count t) r st
+
+  -- a part behind the other
+  pub checks-are : firstOf (checksOf most t r st rows places) ≡ (traverseCheck most t then (lentCheck (count t) (pointCount r.points) rows places then recordCheck (count t) r st))
+  unfolding checksOf
+  checks-are = first-append (traverseChecks most t) (lent ++ values) ∙ ap (λ (c : Check). traverseCheck most t then c) (first-append lent values)
+
+  pub passed : firstOf (checksOf most t r st rows places) ≡ Pass → Passed most t r st rows places
   unfolding checksOf
   passed e =
-      let a = traverseCheck most t in
-      let b = lentCheck (count t) (pointCount r.points) rows places in
-      let c = recordCheck (count t) r st in
-      let e₁ = then-right a (b then c) e in
+      let e₁ = first-right (traverseChecks most t) (lent ++ values) e in
       record {
-        traverse = traverse-in most t (then-left a (b then c) e);
-        lent = lent-in (count t) (pointCount r.points) rows places (then-left b c e₁);
-        values = record-in (count t) r st (then-right b c e₁);
+        traverse = traverse-in most t (first-left (traverseChecks most t) (lent ++ values) e);
+        lent = lent-in (count t) (pointCount r.points) rows places (first-left lent values e₁);
+        values = record-in (count t) r st (first-right lent values e₁);
       }
 
   -- and every call that meets these facts passes
-  pub passes : Passed most t r st rows places → checksOf most t r st rows places ≡ Pass
-  unfolding checksOf
-  passes v = rw (traverse-passes most t v.traverse, lent-passes (count t) (pointCount r.points) rows places v.lent, record-passes (count t) r st v.values)
+  pub passes : Passed most t r st rows places → firstOf (checksOf most t r st rows places) ≡ Pass
+  passes v = rw (checks-are, traverse-passes most t v.traverse, lent-passes (count t) (pointCount r.points) rows places v.lent, record-passes (count t) r st v.values)

@@ -1,8 +1,8 @@
 -- No place in a refusal is past the count of points: points, rows and segments are counted no further. And a record whose rows are not one for
 -- each segment is refused as if it had none. Assumes nothing.
-use mathlib.Core.Path.{◌≡◌, refl}
-use mathlib.Core.Bool.{Bool, true, false, cond, not, ◌&&◌}
-use mathlib.Core.List.{List}
+use mathlib.Core.Path.{◌≡◌, refl, ◌∙◌}
+use mathlib.Core.Bool.{Bool, true, false, cond, not}
+use mathlib.Core.List.{List, [], ◌∷◌}
 use borrow.Author.Tests.{ne_eqb}
 use native.Mathlib.Omega.{arith}
 use Prim.Native.Nat.{ℕ, zero, suc, ◌+◌, ◌-◌, ◌≤◌}
@@ -12,7 +12,7 @@ use lib.IntN.{ℤ}
 use Rattle.ranges.specs.declared.Range.{Range}
 use Rattle.records.specs.declared.Row.{Row}
 use Rattle.records.specs.declared.Kind.{Kind}
-use Rattle.records.specs.declared.Kind.TheVariants.{Points, TraverseValue, Distance, Lent, RecordValue, Depth, Flux, Setup}
+use Rattle.records.specs.declared.Kind.TheVariants.{Points, TraverseValue, Distance, Lent, RecordValue, CalmAngle, Depth, Flux, Setup}
 use Rattle.records.specs.declared.Refusal.{Refusal}
 use Rattle.records.specs.Refusals.{refusal}
 use Rattle.records.specs.Groups.{pointCount, rowCount}
@@ -20,7 +20,7 @@ use Rattle.records.specs.Shapes.{Traverse, Record, count}
 use Rattle.records.specs.Limits.{countOk, headOk, waterOk, fluxOk, setupOk}
 use Rattle.records.specs.declared.Check.{Check}
 use Rattle.records.specs.declared.Check.TheVariants.{Pass, Fail}
-use Rattle.records.specs.CheckOrder.{need, ◌then◌, each, firstBad}
+use Rattle.records.specs.CheckOrder.{need, ◌then◌, each, firstBad, firstOf}
 use Rattle.segment.specs.declared.Leg.{Leg}
 use Rattle.segment.specs.declared.Site.{Site}
 use Rattle.segment.specs.declared.Weather.{Weather}
@@ -30,7 +30,8 @@ use Rattle.segment.specs.Segment.{segmentOf, segmentDepth, segmentFlux, segmentS
 use Rattle.march.specs.declared.State.{State}
 use Rattle.march.specs.Answers.{accepted, refused, opened, notOpened, toldOpen}
 use Rattle.march.specs.Given.{Given, segments}
-use Rattle.march.specs.Checks.{stationsOk, spacingOk, placesOk, rowsOk, timesOk, pointsOk, traverseCheck, lentCheck, recordCheck, checksOf, checkOf, openOf}
+use Rattle.march.specs.Checks.{stationsOk, spacingOk, rowsOk, timesOk, pointsOk, calmsOk, traverseChecks, traverseCheck, lentChecks, lentCheck, recordChecks, recordCheck, checksOf, checkOf, openOf}
+use Rattle.march.proofs.ChecksPassed.{checks-are}
 use Rattle.march.specs.March.{March, stopped, done, before, further, marchBy, segmentAt, noSetup, siteAt, weatherAt, workingRow}
 use Rattle.march.specs.Take.{marchGiven, afterChecks, afterMarch, takeOf}
 
@@ -66,30 +67,64 @@ module _ (b : ℕ) where
       let g : firstBad ok n 0 ≤ 0 + n = bad-at ok n 0 in
       need-at (eqb (firstBad ok n 0) 0) (refusal kind (firstBad ok n 0)) (omega arith)
 
-  traverse-at : (most : ℕ) (t : Traverse) → count t ≤ b → AtMost b (traverseCheck most t)
-  unfolding traverseCheck
-  traverse-at most t h =
-      let n = count t in
-      let values = each TraverseValue (stationsOk t.points) n in
-      let spacing = each Distance (spacingOk n t.points) n in
-      let head = need (headOk t.head) (refusal TraverseValue 0) in
-      then_at (need (countOk most n) (refusal Points n)) (head then (values then spacing)) (need-at (countOk most n) (refusal Points n) h)
-      (then_at head (values then spacing) (need-at (headOk t.head) (refusal TraverseValue 0) (omega arith))
-      (then_at values spacing (each_at TraverseValue (stationsOk t.points) n h) (each_at Distance (spacingOk n t.points) n h)))
+  unfoldable AllAt : List Check → Type 0
+  AllAt [] = Unit {0}
+  AllAt (k ∷ l) = AtMost b k × AllAt l
 
-  check-at : (most : ℕ) (t : Traverse) (r : Record) (st : State) (rows : List ℤ) (places : ℕ) → count t ≤ b → AtMost b (checksOf most t r st rows places)
-  unfolding checksOf lentCheck recordCheck
-  check-at most t r st rows places h =
-      let n = count t in
-      let counts = eqb (rowCount rows) (n - 1) && (eqb (pointCount r.points) n && placesOk places (n - 1)) in
-      let bad = each Lent (rowsOk rows) (n - 1) in
-      let values = each RecordValue (pointsOk r.points) n in
-      let lent = need counts (refusal Lent 0) then bad in
-      let times = need (timesOk r.closing st) (refusal RecordValue 0) in
-      then_at (traverseCheck most t) (lent then (times then values)) (traverse-at most t h)
-      (then_at lent (times then values)
-      (then_at (need counts (refusal Lent 0)) bad (need-at counts (refusal Lent 0) (omega arith)) (each_at Lent (rowsOk rows) (n - 1) (omega arith)))
-      (then_at times values (need-at (timesOk r.closing st) (refusal RecordValue 0) (omega arith)) (each_at RecordValue (pointsOk r.points) n h)))
+  first_at : (l : List Check) → AllAt l → AtMost b (firstOf l)
+  unfolding AllAt firstOf
+  first_at [] v = omega arith
+  first_at (k ∷ l) v = then_at k (firstOf l) v.0 (first_at l v.1)
+
+  traverse-at : (most : ℕ) (t : Traverse) → count t ≤ b → AtMost b (traverseCheck most t)
+  unfolding traverseChecks AllAt
+  traverse-at most t h =
+      first_at (traverseChecks most t) (
+        need-at (countOk most (count t)) (refusal Points (count t)) h,
+        (
+          need-at (headOk t.head) (refusal TraverseValue 0) (omega arith),
+          (
+            each_at TraverseValue (stationsOk t.points) (count t) h,
+            (
+              each_at Distance (spacingOk (count t) t.points) (count t) h,
+              tt,
+            ),
+          ),
+        ),
+      )
+
+  lent-at : (points given : ℕ) (rows : List ℤ) (places : ℕ) → points ≤ b → AtMost b (lentCheck points given rows places)
+  unfolding lentChecks AllAt
+  lent-at points given rows places h =
+      first_at (lentChecks points given rows places) (
+        need-at _ (refusal Lent 0) (omega arith),
+        (
+          each_at Lent (rowsOk rows) (points - 1) (omega arith),
+          tt,
+        ),
+      )
+
+  record-at : (points : ℕ) (r : Record) (st : State) → points ≤ b → AtMost b (recordCheck points r st)
+  unfolding recordChecks AllAt
+  record-at points r st h =
+      first_at (recordChecks points r st) (
+        need-at (timesOk r.closing st) (refusal RecordValue 0) (omega arith),
+        (
+          each_at RecordValue (pointsOk r.points) points h,
+          (
+            each_at CalmAngle (calmsOk r.points) points h,
+            tt,
+          ),
+        ),
+      )
+
+  check-at : (g : Given) → count g.traverse ≤ b → AtMost b (checkOf g)
+  check-at g h =
+      let n = count g.traverse in
+      let lent = lentCheck n (pointCount g.storm.points) g.rows (length g.setup) in
+      rw (checks-are g.most g.traverse g.storm g.state g.rows (length g.setup))
+      (then_at (traverseCheck g.most g.traverse) (lent then recordCheck n g.storm g.state) (traverse-at g.most g.traverse h)
+      (then_at lent (recordCheck n g.storm g.state) (lent-at n (pointCount g.storm.points) g.rows (length g.setup) h) (record-at n g.storm g.state h)))
 
   -- ---- a march of n segments stops at one of them
 
@@ -155,16 +190,19 @@ open-place most t number place e = open_at (count t) (traverseCheck most t) (tra
 pub take-place : (g : Given) (number place : ℕ) → (takeOf g).answer ≡ refused number place → place ≤ count g.traverse
 unfolding takeOf
 take-place g number place e =
-    take-told (count g.traverse) (checkOf g) (check-at (count g.traverse) g.most g.traverse g.storm g.state g.rows (length g.setup) (omega arith)) g number place (omega arith) e
+    take-told (count g.traverse) (checkOf g) (check-at (count g.traverse) g (omega arith)) g number place (omega arith) e
 
 -- ---- rows that are not one for each segment
 
 -- where the traverse passes, 8 with place 0; else the traverse's own refusal
 pub wrong-rows : (most : ℕ) (t : Traverse) (r : Record) (st : State) (rows : List ℤ) (places : ℕ) → (traverseCheck most t ≡ Pass → rowCount rows ≡ segments t → ⊥) →
-    checksOf most t r st rows places ≡ (traverseCheck most t then Fail (refusal Lent 0))
-unfolding checksOf lentCheck
-wrong-rows most t r st rows places h = by (traverseCheck most t) refl
+    firstOf (checksOf most t r st rows places) ≡ (traverseCheck most t then Fail (refusal Lent 0))
+unfolding lentChecks firstOf
+wrong-rows most t r st rows places h = checks-are most t r st rows places ∙ by (traverseCheck most t) refl
   where
+    not-lent : (rowCount rows ≡ segments t → ⊥) → lentCheck (count t) (pointCount r.points) rows places ≡ Fail (refusal Lent 0)
+    not-lent k = rw (ne_eqb (rowCount rows) (count t - 1) k)
+
     by : (k : Check) → traverseCheck most t ≡ k → (traverseCheck most t then (lentCheck (count t) (pointCount r.points) rows places then recordCheck (count t) r st)) ≡ (traverseCheck most t then Fail (refusal Lent 0))
     by (Fail refusal) e = rw e
-    by Pass e = rw (e, ne_eqb (rowCount rows) (count t - 1) (h e))
+    by Pass e = rw (e, not-lent (h e))

@@ -7,5 +7,6 @@ pub mod MarchBounds
 pub mod Take
 pub mod TakeBounds
 pub mod Exact
+pub mod Demand1
 pub mod Demand3
 pub mod Lists

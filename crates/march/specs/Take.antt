@@ -69,7 +69,7 @@ leftAccepted g legs = record {
 abbrev pub leftRefused : Given → Refusal → Left
 leftRefused g refusal = record { answer = refused (numberOf refusal.kind) refusal.place; state = g.state; rows = g.rows; setup = g.setup }
 
--- ---- taking a record: checks 5 to 9, then the march over all segments
+-- ---- taking a record: checks 5 to 9 and 18, then the march over all segments
 
 abbrev pub marchGiven : Given → March
 marchGiven g = marchOf g.traverse g.storm (not g.state.started) g.rows (segments g.traverse)

@@ -1,17 +1,17 @@
-// Checks 5 to 9 of document 01, in the order of its table: the first that fails decides, and within it the first bad point or row.
+// Checks 5 to 9 of document 01 and 18 of document 02, in their order: the first that fails decides, and within it the first bad point or row.
 // All that is looked at is the caller's and may hold anything; nothing overflows on it and nothing past a slice is read.
 ghost use Rattle.std.specs.Prelude.{◌≡◌, ◌&&◌, ◌||◌, not, ◌+◌, ◌-◌, ◌*◌, ◌≤◌, ◌<◌, eqb, length, pos, ◌-ℤ◌};
 ghost use Rattle.ranges.specs.Bounds.{Sized};
 ghost use Rattle.records.specs.Limits.{lengthOk, shoreOk, mostPoints};
 ghost use Rattle.records.specs.Shapes.{traverse, storm};
-ghost use Rattle.records.specs.CheckOrder.{firstBad};
-ghost use Rattle.march.specs.Checks.{stationsOk, spacingOk, traverseCheck, openOf, openedBy, placesOk, rowsOk, lentCheck, timesOk, pointsOk, recordCheck, checksOf};
+ghost use Rattle.records.specs.CheckOrder.{firstBad, firstOf};
+ghost use Rattle.march.specs.Checks.{stationsOk, spacingOk, traverseCheck, openOf, openedBy, placesOk, rowsOk, lentCheck, timesOk, pointsOk, calmsOk, recordCheck, checksOf};
 
 use super::{Call, Opened, State};
 use records::groups::{point_at, row_at, station_at, whole_groups};
 use records::limits::{
-    ELAPSED_HIGH, ELAPSED_LOW, LENGTH_HIGH, LENGTH_LOW, POINTS_MOST, TIDE, count_ok, head_ok,
-    inside, point_ok, row_ok, seconds_ok, station_ok,
+    ELAPSED_HIGH, ELAPSED_LOW, LENGTH_HIGH, LENGTH_LOW, POINTS_MOST, TIDE, calm_ok, count_ok,
+    head_ok, inside, point_ok, row_ok, seconds_ok, station_ok,
 };
 use records::{Check, Closing, Head, Kind, Point, Refusal, Row, Station};
 
@@ -102,20 +102,11 @@ pub fn check_traverse(most: usize, head: Head, points: &[i64]) -> Check
         });
     }
     let bad = bad_station(points, n);
-    if bad != 0 {
-        return Check::Fail(Refusal {
-            kind: Kind::TraverseValue,
-            place: bad,
-        });
+    if let Check::Fail(refusal) = Check::first_bad(Kind::TraverseValue, bad) {
+        return Check::Fail(refusal);
     }
     let wrong = bad_spacing(points, n);
-    if wrong != 0 {
-        return Check::Fail(Refusal {
-            kind: Kind::Distance,
-            place: wrong,
-        });
-    }
-    Check::Pass
+    Check::first_bad(Kind::Distance, wrong)
 }
 
 // Opening a traverse: no row is read or written. Open to callers: every argument may be anything whatever.
@@ -187,13 +178,7 @@ pub fn check_lent(points: usize, given: usize, rows: &[i64], places: usize) -> C
         });
     }
     let bad = bad_row(rows, n);
-    if bad != 0 {
-        return Check::Fail(Refusal {
-            kind: Kind::Lent,
-            place: bad,
-        });
-    }
-    Check::Pass
+    Check::first_bad(Kind::Lent, bad)
 }
 
 // ---- a record
@@ -232,7 +217,23 @@ pub fn bad_point(winds: &[i64], n: usize) -> usize
     0
 }
 
-// Check 9 for a traverse of so many points.
+// Check 18: the first of n points where a calm has a direction.
+pub fn bad_calm(winds: &[i64], n: usize) -> usize
+    requires { 3 * n ≤ length winds.now }
+    ensures { result ≡ firstBad (calmsOk winds.now) n 0 }
+{
+    let mut i = 0;
+    while i < n {
+        let point = point_at(winds, i);
+        if !calm_ok(point) {
+            return i + 1;
+        }
+        i += 1;
+    }
+    0
+}
+
+// Checks 9 and 18 for a traverse of so many points: all points by 9, then all by 18.
 pub fn check_record(points: usize, closing: Closing, winds: &[i64], st: State) -> Check
     requires { 3 * points ≤ length winds.now }
     ensures { result ≡ recordCheck points (storm closing winds.now) st }
@@ -243,19 +244,17 @@ pub fn check_record(points: usize, closing: Closing, winds: &[i64], st: State) -
             place: 0,
         });
     }
-    let bad = bad_point(winds, points);
-    if bad != 0 {
-        return Check::Fail(Refusal {
-            kind: Kind::RecordValue,
-            place: bad,
-        });
+    let value = bad_point(winds, points);
+    let calm = bad_calm(winds, points);
+    if let Check::Fail(refusal) = Check::first_bad(Kind::RecordValue, value) {
+        return Check::Fail(refusal);
     }
-    Check::Pass
+    Check::first_bad(Kind::CalmAngle, calm)
 }
 
 // ---- all of them
 
-// Checks 5 to 9, as taking a record makes them, with so many setup places.
+// Checks 5 to 9 and 18, as taking a record makes them, with so many setup places.
 pub fn check_all(
     most: usize,
     call: Call,
@@ -264,7 +263,7 @@ pub fn check_all(
     rows: &[i64],
     places: usize,
 ) -> Check
-    ensures { result ≡ checksOf most (traverse call.head points.now) (storm call.closing winds.now) call.state rows.now places }
+    ensures { result ≡ firstOf (checksOf most (traverse call.head points.now) (storm call.closing winds.now) call.state rows.now places) }
 {
     let head = call.head;
     let closing = call.closing;

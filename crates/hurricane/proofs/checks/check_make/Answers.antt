@@ -1,24 +1,24 @@
 -- `check_make` meets its contract: the first that fails decides. Assumes nothing.
-use Rattle.std.proofs.Common.{◌≡◌, ℕ, ℤ, sym, ◌∙◌, ◌&&◌, List, ◌*◌, ◌≤◌, length, leb, rules}
-use borrow.Author.Tests.{ne_eqb, lt-leb, le-leb}
+use Rattle.std.proofs.Common.{◌≡◌, ℕ, ℤ, sym, ◌∙◌, ◌&&◌, List, [], ◌∷◌, ◌*◌, ◌≤◌, length, leb, rules}
+use borrow.Author.Tests.{lt-leb, le-leb}
 use Rattle.records.specs.declared.Check.{Check}
 use Rattle.records.specs.declared.Kind.TheVariants.{Lent, StormValue, WindRadii}
-use Rattle.records.specs.CheckOrder.{need, ◌then◌, each}
+use Rattle.records.specs.CheckOrder.{need, each, firstOf}
 use Rattle.records.specs.Limits.{countOk, mostPoints}
 use Rattle.records.specs.Refusals.{refusal}
 use Rattle.records.proofs.GroupLaws.{wholes-fit}
 use Rattle.hurricane.specs.declared.Hurricane.{Hurricane}
 use Rattle.hurricane.specs.Groups.{windCount, siteCount}
 use Rattle.hurricane.specs.Limits.{hurricaneOk, windCountOk}
-use Rattle.hurricane.specs.Checks.{windRowsOk, sitesOk, risingOk, makeCheck}
+use Rattle.hurricane.specs.Checks.{windRowsOk, sitesOk, risingOk, makeChecks, makeCheck}
 use Rattle.hurricane.proofs.checks.check_make.Goals as goal
 
 -- the checks with the counts that the code has
 by-counts : (h : Hurricane) (winds sites : List ℤ) (room rows points : ℕ) (x : Check) → rows ≡ windCount winds → points ≡ siteCount sites →
-    x ≡ (need (hurricaneOk h && (windCountOk rows && countOk mostPoints points)) (refusal StormValue 0) then each StormValue (windRowsOk winds) rows
-    then each StormValue (sitesOk sites) points then each WindRadii (risingOk winds) rows then need (leb (3 * points) room) (refusal Lent 0)) →
+    x ≡ firstOf (need (hurricaneOk h && (windCountOk rows && countOk mostPoints points)) (refusal StormValue 0) ∷ each StormValue (windRowsOk winds) rows
+    ∷ each StormValue (sitesOk sites) points ∷ each WindRadii (risingOk winds) rows ∷ need (leb (3 * points) room) (refusal Lent 0) ∷ []) →
     x ≡ makeCheck h winds sites room
-unfolding makeCheck
+unfolding makeChecks
 by-counts h winds sites room rows points x e f k = rw (e, f) at k
 
 rows-fit : (winds : List ℤ) (n : ℕ) → n ≡ windCount winds → 2 * n ≤ length winds
@@ -28,6 +28,7 @@ points-fit : (sites : List ℤ) (n : ℕ) → n ≡ siteCount sites → 3 * n �
 points-fit sites n e = rw e (wholes-fit 3 (length sites))
 
 pub returns-then-not-numbers_ok : goal.returns-then-not-numbers_ok
+unfolding firstOf
 returns-then-not-numbers_ok c =
     by-counts _ _ _ _ c.whole_groups-rows.result c.whole_groups-points.result _ c.whole_groups-rows.ensures c.whole_groups-points.ensures
     (rw (sym c.numbers_ok.ensures ∙ c.if-not-numbers_ok.true))
@@ -35,34 +36,43 @@ returns-then-not-numbers_ok c =
 pub bad_wind_row-row-requires : goal.bad_wind_row-row-requires
 bad_wind_row-row-requires c = rows-fit _ _ c.whole_groups-rows.ensures
 
-pub returns-then-row-ne0 : goal.returns-then-row-ne0
-returns-then-row-ne0 c =
+pub returns-in-Fail : goal.returns-in-Fail
+unfolding firstOf
+returns-in-Fail c =
     by-counts _ _ _ _ c.whole_groups-rows.result c.whole_groups-points.result _ c.whole_groups-rows.ensures c.whole_groups-points.ensures
-    (rw (c.bad_wind_row-row.ensures, sym c.numbers_ok.ensures ∙ c.if-not-numbers_ok.false)
-    (simp (ne_eqb _ _ (λ z. c.if-row-ne0.true (c.bad_wind_row-row.ensures ∙ z)))))
+    (rw (sym c.numbers_ok.ensures ∙ c.if-not-numbers_ok.false, ← c.bad_wind_row-row.ensures, sym c.first_bad.ensures ∙ c.in-Fail.is))
 
 pub bad_site-point-requires : goal.bad_site-point-requires
 bad_site-point-requires c = points-fit _ _ c.whole_groups-points.ensures
 
-pub returns-then-point-ne0 : goal.returns-then-point-ne0
-returns-then-point-ne0 c =
+pub returns-in-Fail-first_bad : goal.returns-in-Fail-first_bad
+unfolding firstOf
+returns-in-Fail-first_bad c =
     by-counts _ _ _ _ c.whole_groups-rows.result c.whole_groups-points.result _ c.whole_groups-rows.ensures c.whole_groups-points.ensures
-    (rw (c.bad_site-point.ensures, sym c.numbers_ok.ensures ∙ c.if-not-numbers_ok.false, sym c.bad_wind_row-row.ensures ∙ c.if-row-ne0.false)
-    (simp (ne_eqb _ _ (λ z. c.if-point-ne0.true (c.bad_site-point.ensures ∙ z)))))
+    (rw (
+      sym c.numbers_ok.ensures ∙ c.if-not-numbers_ok.false,
+      ← c.bad_wind_row-row.ensures,
+      sym c.first_bad.ensures ∙ c.in_default.is,
+      ← c.bad_site-point.ensures,
+      sym c.first_bad-2.ensures ∙ c.in-Fail-first_bad.is,
+    ))
 
 pub bad_radius-fall-requires : goal.bad_radius-fall-requires
 bad_radius-fall-requires c = rows-fit _ _ c.whole_groups-rows.ensures
 
-pub returns-then-fall-ne0 : goal.returns-then-fall-ne0
-returns-then-fall-ne0 c =
+pub returns-in-Fail-first_bad-2 : goal.returns-in-Fail-first_bad-2
+unfolding firstOf
+returns-in-Fail-first_bad-2 c =
     by-counts _ _ _ _ c.whole_groups-rows.result c.whole_groups-points.result _ c.whole_groups-rows.ensures c.whole_groups-points.ensures
     (rw (
-      c.bad_radius-fall.ensures,
       sym c.numbers_ok.ensures ∙ c.if-not-numbers_ok.false,
-      sym c.bad_wind_row-row.ensures ∙ c.if-row-ne0.false,
-      sym c.bad_site-point.ensures ∙ c.if-point-ne0.false,
-    )
-    (simp (ne_eqb _ _ (λ z. c.if-fall-ne0.true (c.bad_radius-fall.ensures ∙ z)))))
+      ← c.bad_wind_row-row.ensures,
+      sym c.first_bad.ensures ∙ c.in_default.is,
+      ← c.bad_site-point.ensures,
+      sym c.first_bad-2.ensures ∙ c.in_default-first_bad.is,
+      ← c.bad_radius-fall.ensures,
+      sym c.first_bad-3.ensures ∙ c.in-Fail-first_bad-2.is,
+    ))
 
 pub overflow_mul-points : goal.overflow_mul-points
 overflow_mul-points c =
@@ -70,23 +80,31 @@ overflow_mul-points c =
     search rules
 
 pub returns-then-room-points : goal.returns-then-room-points
+unfolding firstOf
 returns-then-room-points c =
     by-counts _ _ _ _ c.whole_groups-rows.result c.whole_groups-points.result _ c.whole_groups-rows.ensures c.whole_groups-points.ensures
     (rw (
       sym c.numbers_ok.ensures ∙ c.if-not-numbers_ok.false,
-      sym c.bad_wind_row-row.ensures ∙ c.if-row-ne0.false,
-      sym c.bad_site-point.ensures ∙ c.if-point-ne0.false,
-      sym c.bad_radius-fall.ensures ∙ c.if-fall-ne0.false,
+      ← c.bad_wind_row-row.ensures,
+      sym c.first_bad.ensures ∙ c.in_default.is,
+      ← c.bad_site-point.ensures,
+      sym c.first_bad-2.ensures ∙ c.in_default-first_bad.is,
+      ← c.bad_radius-fall.ensures,
+      sym c.first_bad-3.ensures ∙ c.in_default-first_bad-2.is,
       lt-leb _ _ c.if-room-points.true,
     ))
 
 pub returns : goal.returns
+unfolding firstOf
 returns c =
     by-counts _ _ _ _ c.whole_groups-rows.result c.whole_groups-points.result _ c.whole_groups-rows.ensures c.whole_groups-points.ensures
     (rw (
       sym c.numbers_ok.ensures ∙ c.if-not-numbers_ok.false,
-      sym c.bad_wind_row-row.ensures ∙ c.if-row-ne0.false,
-      sym c.bad_site-point.ensures ∙ c.if-point-ne0.false,
-      sym c.bad_radius-fall.ensures ∙ c.if-fall-ne0.false,
+      ← c.bad_wind_row-row.ensures,
+      sym c.first_bad.ensures ∙ c.in_default.is,
+      ← c.bad_site-point.ensures,
+      sym c.first_bad-2.ensures ∙ c.in_default-first_bad.is,
+      ← c.bad_radius-fall.ensures,
+      sym c.first_bad-3.ensures ∙ c.in_default-first_bad-2.is,
       le-leb _ _ c.if-room-points.false,
     ))

@@ -9,7 +9,7 @@ use Rattle.records.proofs.GroupLaws.{same_point}
 use Rattle.hurricane.specs.declared.Hurricane.{Hurricane}
 use Rattle.hurricane.specs.declared.PlanePoint.{PlanePoint}
 use Rattle.hurricane.specs.Bounds.{ApartIn, HurricaneIn, PlanePointIn}
-use Rattle.hurricane.specs.Field.{distanceOf, hundredthsOf, deficitOf, windOf, pointFor}
+use Rattle.hurricane.specs.Field.{distanceOf, hundredthsOf, deficitOf, windOf, angleFor, pointFor}
 use Rattle.hurricane.proofs.FieldLaws.{distance-nn}
 use Rattle.hurricane.proofs.field.point_for.Goals as goal
 
@@ -33,6 +33,10 @@ deficit-is : (table : ℕ → ℤ) (central edge x : ℤ) (m n : ℕ) → SFits 
     → x ≡ deficitOf table (read central) (read edge) m → x ≡ deficitOf table central edge n
 deficit-is table central edge x m n f g e k = (rw (to_z-of_z f, to_z-of_z g) at k) ∙ ap (deficitOf table central edge) e
 
+-- the angle beside the wind
+angle-is : (wind angle x w : ℤ) → SFits w64 angle → read wind ≡ w → x ≡ angleFor (read wind) (read angle) → x ≡ angleFor w angle
+angle-is wind angle x w f e k = rw (e, to_z-of_z f) at k
+
 pub hundredths-m-requires : goal.hundredths-m-requires
 hundredths-m-requires c =
     let h = c.requires.1.0 in
@@ -50,8 +54,9 @@ returns c =
     let m = place-is c.args.h.radius c.distance-r.result _ c.hundredths-m.result (search rules) d c.hundredths-m.ensures.value in
     let w : SFits w64 c.wind_at-wind.result = sfits_of c.wind_at-wind.type_inv in
     let g : SFits w64 c.deficit-deficit.result = sfits_of c.deficit-deficit.type_inv in
-    let a : SFits w64 c.args.p.angle = search rules in
+    let a : SFits w64 c.angle_for-angle.result = sfits_of c.angle_for-angle.type_inv in
     let v : c.wind_at-wind.result ≡ windOf c.args.winds.now (distanceOf c.args.h.x c.args.h.y c.args.p.x c.args.p.y) = rw d at c.wind_at-wind.ensures in
-    same_point (to_z-of_z w ∙ v) (to_z-of_z a)
+    same_point (to_z-of_z w ∙ v)
+    (to_z-of_z a ∙ angle-is c.wind_at-wind.result c.args.p.angle c.angle_for-angle.result _ (search rules) (to_z-of_z w ∙ v) c.angle_for-angle.ensures)
     (to_z-of_z g
     ∙ deficit-is (at c.args.table.now) c.args.h.central c.args.h.edge c.deficit-deficit.result c.hundredths-m.result _ (search rules) (search rules) m c.deficit-deficit.ensures)

@@ -6,8 +6,8 @@ use Rattle.records.specs.declared.Check.TheVariants.{Pass}
 use Rattle.records.specs.Groups.{pointCount}
 use Rattle.records.specs.Shapes.{traverse, storm, count}
 use Rattle.records.proofs.GroupLaws.{wholes-fit}
-use Rattle.march.specs.Checks.{checksOf, traverseCheck, lentCheck, recordCheck}
-use Rattle.march.proofs.ChecksPassed.{traverse-in, lent-in}
+use Rattle.march.specs.Checks.{traverseCheck, lentCheck, recordCheck}
+use Rattle.march.proofs.ChecksPassed.{checks-are, traverse-in, lent-in}
 use Rattle.march.proofs.checks.check_all.Goals as goal
 use Rattle.march.proofs.checks.check_all.Goals.{In_default, After-check_lent-second}
 
@@ -22,18 +22,16 @@ lent_is c =
     c.check_lent-second.ensures ∙ ap₂ (λ (n m : ℕ). lentCheck n m c.args.rows.now c.args.places) c.whole_groups-n.ensures c.whole_groups-given.ensures
 
 pub returns-in-Fail : goal.returns-in-Fail
-unfolding checksOf
-returns-in-Fail c = rw (sym c.check_traverse-first.ensures ∙ c.in-Fail.is)
+returns-in-Fail c = rw (checks-are _ _ _ _ _ _, sym c.check_traverse-first.ensures ∙ c.in-Fail.is)
 
 pub check_lent-second-requires : goal.check_lent-second-requires
 check_lent-second-requires c =
     rw c.whole_groups-n.ensures (traverse-in _ _ (first (goal.at.check_lent-second-requires c).In_default)).from
 
 pub returns-in-Fail-second : goal.returns-in-Fail-second
-unfolding checksOf
 returns-in-Fail-second c =
     let p = goal.at.returns-in-Fail-second c in
-    rw (first p.In_default, ← lent_is p.After-check_lent-second, c.in-Fail-second.is)
+    rw (checks-are _ _ _ _ _ _, first p.In_default, ← lent_is p.After-check_lent-second, c.in-Fail-second.is)
 
 pub check_record-requires : goal.check_record-requires
 check_record-requires c =
@@ -42,8 +40,7 @@ check_record-requires c =
     rw (c.whole_groups-n.ensures, ← v.given_is) (wholes-fit 3 (length c.args.winds.now))
 
 pub returns : goal.returns
-unfolding checksOf
 returns c =
     let p = goal.at.returns c in
-    rw (first p.In_default, ← lent_is p.After-check_lent-second, c.in_default-second.is)
+    rw (checks-are _ _ _ _ _ _, first p.In_default, ← lent_is p.After-check_lent-second, c.in_default-second.is)
     (c.check_record.ensures ∙ ap (λ (n : ℕ). recordCheck n (storm c.args.call.closing c.args.winds.now) c.args.call.state) c.whole_groups-n.ensures)
