@@ -22,7 +22,7 @@ static ucontext_t here, there;
 static uint64_t told;
 
 /* What the cases change: numbers that are refused, the seconds, the bytes of text, the room for a record and for a text. */
-static int64_t latitude = 430, seconds, shore_wind, central_pressure = 2757;
+static int64_t latitude = 430, seconds, shore_wind = 264, central_pressure = 2757;
 static size_t traverse_bytes, storm_bytes, deck_bytes, room_count = FENNHOP_READ_STORM, text_count = sizeof text;
 
 static void open_traverse(void)
@@ -144,7 +144,7 @@ static long of_opening(void)
     return most(bytes, used(open_traverse, 0));
 }
 
-/* A first and a later record, and one refused at its first and at its last value. */
+/* A first and a later record, and one refused at its first and at its last value, and for a calm that has a direction. */
 static long of_taking(void)
 {
     long bytes = used(take_record, 0);
@@ -153,6 +153,8 @@ static long of_taking(void)
     shore_wind = 2001;
     bytes = most(bytes, used(take_record, FENNHOP_REFUSED_RECORD_VALUE));
     shore_wind = 0;
+    bytes = most(bytes, used(take_record, FENNHOP_REFUSED_CALM_ANGLE));
+    shore_wind = 264;
     latitude = -1;
     bytes = most(bytes, used(take_record, FENNHOP_REFUSED_TRAVERSE_VALUE));
     latitude = 430;

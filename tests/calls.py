@@ -4,6 +4,8 @@
 #
 #   python3 calls.py DRIVER CASES SEED [--only KIND,KIND..]
 #
+# Before the random records come those of gen/calms.py, whatever the seed.
+#
 # THE PROTOCOL. A request is a word and whole decimal numbers, an answer whole
 # decimal numbers, all separated by one space, each line ended by a line feed.
 # Numbers fit 64 bits with sign. A driver that does not offer a call, or whose
@@ -54,7 +56,7 @@ import sys
 import tempfile
 import time
 
-from gen import edges, values
+from gen import calms, edges, values
 from gen.run import Run
 from model import forcing, march, ranges
 from model.sine import cosine, sine
@@ -255,11 +257,11 @@ def marked_places(rng, count):
 
 
 def spoiled_record(rng, run, record):
-    """A record that check 9 refuses, or one of another count of points."""
+    """A record that check 9 or 18 refuses."""
     values_of_it = list(record[:2]) + [list(p) for p in record.points]
     other = Run(*run.head, run.points, [values_of_it])
-    fault = rng.choice((values.fault_seconds, values.fault_tide, values.fault_field))
-    fault(rng, other)
+    faults = values.fault_seconds, values.fault_tide, values.fault_field
+    rng.choice((*faults, values.fault_calm_angle))(rng, other)
     if rng.random() < 0.15:
         rng.choice(other.records[0][2:])[rng.randrange(3)] = rng.choice(LARGE)
     if rng.random() < 0.1:
@@ -351,7 +353,7 @@ def edge_flux_requests(rng):
     end = sign * (1_000_000 - rng.randint(0, 40))
     other = end - sign * rng.choice((0, 1, 1000))
     wind = rng.randint(0, 900)
-    field = ((wind, 900 if sign > 0 else 2700, 0),) * 2
+    field = ((wind, values.angle_for(wind, 900 if sign > 0 else 2700), 0),) * 2
     rows = [march.Row(min(end, other), max(end, other), sign * rng.choice((0, SUM)))]
     record = march.Record(rng.randint(1, 4), 0, field)
     state = march.State(rng.randint(0, 10_000), True)
@@ -398,6 +400,11 @@ def forever(ask, rng):
         yield ask(rng)
 
 
+def calm_requests():
+    """A calm that has a direction, alone and beside every other fault."""
+    return (ask_one_record(*call)[:2] for call in calms.calls())
+
+
 def storms(rng):
     while True:
         for run in storm_runs(rng):
@@ -414,7 +421,7 @@ def requests(kind, count, rng):
     if kind == "stress":
         return ((line("stress", w), line(forcing.stress(w))) for w in range(2001))
     if kind == "record":
-        return itertools.islice(storms(rng), count)
+        return itertools.chain(calm_requests(), itertools.islice(storms(rng), count))
     asks = {"force": ask_force, "flux": ask_flux, "gain": ask_gain}
     asks.update({"segment": ask_segment, "open": ask_open})
     return itertools.islice(forever(asks[kind], rng), count)
@@ -440,7 +447,7 @@ def numbers_of(wanted):
     return collections.Counter(int(want.split()[0]) for _, want in wanted)
 
 
-NEEDED = {"segment": (0, 10, 11, 12), "open": (0, 5, 6, 7), "record": (0, *range(5, 13))}
+NEEDED = {"segment": (0, 10, 11, 12), "open": (0, 5, 6, 7), "record": (0, *range(5, 13), 18)}
 
 
 def run_driver(driver, wanted):

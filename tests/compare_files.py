@@ -36,7 +36,7 @@ SHOWN = 5
 TIME_LIMIT = 120
 # Text shorter than this goes through fractions, longer text through model.fast.
 FRACTION_BYTES = 12_000
-NUMBERS = {"read": range(1, 6), "surge": [n for n in range(1, 13) if n != 8]}
+NUMBERS = {"read": range(1, 6), "surge": (*range(1, 8), 9, 18, 10, 11, 12)}
 
 
 def bytes_of(thing):

@@ -33,7 +33,10 @@ SIGNS_OF_A_FAULT = ("unbound variable", "syntax error", "command not found", "to
 CONDITIONS = {
     1: "names line is different", 2: "value line is malformed", 3: "text ends", 4: "seconds or tide differ", 5: "fewer than 2 or more than 65 points",
     6: "value of the traverse", 7: "distances", 9: "value of a record", 10: "water depth", 11: "flux", 12: "setup",
+    18: "a wind of 0 has an angle other than 0",
 }
+# Refusals whose place is a segment.
+SEGMENT = (10, 11, 12)
 LIMITS = {
     "latitude": march.LATITUDE, "friction": march.FRICTION, "initial": march.INITIAL,
     "distance": march.DISTANCE, "depth": march.DEPTH, "tide": march.TIDE,
@@ -135,10 +138,10 @@ class Refused:
             return "in traverse.txt, line %d, point %d: " % (line, line - 3)
         if self.number in (6, 7):
             return "in traverse.txt, line %d, point %d" % (3 + place, place) if place else "in traverse.txt, line 2"
-        if self.number == 9:
+        if self.number in (9, 18):
             told = "in storm.txt, line %d, record %d" % (self.storm_line(max(place, 1)), self.record)
             return told + (", point %d" % place if place else ": its seconds, its tide, or the elapsed time")
-        if self.number > 9:
+        if self.number in SEGMENT:
             told = "in storm.txt, lines %d and %d, record %d, segment %d (points %d and %d)"
             return told % (self.storm_line(place), self.storm_line(place + 1), self.record, place, place, place + 1)
         told = "in %s, line %d" % (self.file, place)
@@ -158,7 +161,7 @@ class Refused:
         """The line that is shown and marked, for refusals that have just one."""
         if self.number == 6:
             return line_at(self.texts[TRAVERSE], 3 + self.place if self.place else 2)
-        if self.number == 9:
+        if self.number in (9, 18):
             return line_at(self.texts[STORM], self.storm_line(max(self.place, 1)))
         return line_at(self.texts[self.file], self.place)
 
@@ -227,6 +230,16 @@ def wrong_mark(refused, lines):
     return None
 
 
+def wrong_calm(refused, lines):
+    """None, or what is wrong with a calm that has a direction: its wind and its angle are marked, and the rule follows."""
+    line = refused.line().decode().rstrip("\n")
+    seconds, tide, wind, angle, _ = line.split()
+    marks = " " * len(seconds + tide) + "  ^ " + "^" * len(angle) + " wind 0, angle " + angle
+    want = ["    " + line, "    " + marks, "limits: a wind of 0 carries angle 0"]
+    at = lines.index(want[0]) if want[0] in lines else 0
+    return None if wind == "0" != angle and lines[at : at + 3] == want else "not %r in %r" % (want, lines)
+
+
 def wrong_segment(refused, lines):
     """None, or what is wrong with the four lines of a segment, their marks and its depth."""
     if refused.number == 10 and not any(line.startswith(refused.depth()) for line in lines):
@@ -270,7 +283,9 @@ def judge(case, listing, done):
         return "no limits in %r" % told
     if refused.number in (1, 2, 3, 6, 9):
         return wrong_mark(refused, lines)
-    return wrong_segment(refused, lines) if refused.number > 9 else None
+    if refused.number == 18:
+        return wrong_calm(refused, lines)
+    return wrong_segment(refused, lines) if refused.number in SEGMENT else None
 
 
 def wrong_words(case, done, mark, words):
@@ -313,7 +328,7 @@ def test_table(room):
             continue
         seen.add(number_and_place(listing)[0])
         check(label, judge(case, listing, done) or wrong_words(case, done, mark, words))
-    lacking = set(range(1, 13)) - {8} - seen
+    lacking = CONDITIONS.keys() - seen
     check("every refusal", "none with %s" % sorted(lacking) if lacking else None)
 
 
@@ -371,7 +386,7 @@ def test_pipes(room):
     for last, words in (
         (b"refused 2 6\n", "in storm.txt, line 6, record 2, point 2"), (b"refused 1 1\n", "in storm.txt, line 1"), (b"refused 3 6\n", "line 6"),
         (b"refused 4 6\n", "record 2, point 2"), (b"refused 9 2\n", "line 6, record 2, point 2"), (b"refused 9 0\n", "line 5, record 2"),
-        (b"refused 11 2\n", "lines 6 and 7, record 2, segment 2"),
+        (b"refused 11 2\n", "lines 6 and 7, record 2, segment 2"), (b"refused 18 2\n", "line 6, record 2, point 2\nthe record before it ended at 0 s\n"),
     ):
         done = explained(folder, NAMES + b"0 1 2\n" + last)
         told = done.stderr.decode()
@@ -381,6 +396,7 @@ def test_pipes(room):
     os.mkfifo(os.path.join(folder, TRAVERSE))
     for names, last, words in (
         (NAMES + b"0 1 2\n", b"refused 9 2\n", "in storm.txt, record 2, point 2\n"), (NAMES + b"0 1 2\n", b"refused 9 0\n", "in storm.txt, record 2\n"),
+        (NAMES + b"0 1 2\n", b"refused 18 2\n", "in storm.txt, record 2, point 2\n"), (NAMES, b"refused 18 65\n", "in storm.txt, record 1, point 65\n"),
         (NAMES + b"0 1 2\n", b"refused 10 1\n", "in storm.txt, record 2, segment 1"), (NAMES + b"0 1 2\n", b"refused 2 7\n", "in storm.txt, line 7\n"),
         (NAMES + b"0 1 2\n", b"refused 4 3\n", "in storm.txt, line 3\n"), (NAMES + b"0 1 2\n", b"refused 3 3\n", "after line 3\n"),
         (b"", b"refused 1 3\n", "in traverse.txt, line 3\n"), (b"", b"refused 2 5\n", "line 5, point 2\n"), (b"", b"refused 3 2\n", "after line 2\n"),
@@ -416,7 +432,8 @@ def test_changed(room):
         told = explained(folder, NAMES + b"%d 1 2\nrefused 9 0\n" % elapsed).stderr.decode()
         check("elapsed", None if words in told and "ended at %d s" % elapsed in told else told)
         check("elapsed, limits", None if ("limits: elapsed time from 0 to 1000000000 s" in told) == ("elapsed 1" in told) else told)
-    for number, place in ((1, 1), (2, 6), (4, 6), (9, 0), (9, 2), (9, 50), (11, 60)):
+    # of 18: a calm with angle 0, a wind with an angle, no such line
+    for number, place in ((1, 1), (2, 6), (4, 6), (9, 0), (9, 2), (9, 50), (11, 60), (18, 1), (18, 2), (18, 50)):
         told = explained(folder, NAMES + b"0 1 2\n" + b"refused %d %d\n" % (number, place)).stderr.decode()
         check("changed", None if "does not show this fault now" in told and "tools/" not in told else told)
 

@@ -153,6 +153,7 @@ static void header(void)
     expect("the refusals of making a record", FENNHOP_REFUSED_STORM_VALUE == 13 && FENNHOP_REFUSED_WIND_RADII == 14);
     expect("the refusals of reading a deck", FENNHOP_REFUSED_CARD_ORDER == 15 && FENNHOP_REFUSED_CARD_UNIT == 16 &&
                                                  FENNHOP_REFUSED_CARD_COUNTS == 17);
+    expect("the refusal of a calm", FENNHOP_REFUSED_CALM_ANGLE == 18);
     expect("the lengths for the most points", FENNHOP_READ_POINTS == FENNHOP_POINTS_STRIDE * FENNHOP_MOST_POINTS &&
                                                   FENNHOP_READ_STORM == FENNHOP_STORM_STRIDE * FENNHOP_MOST_POINTS);
 }
@@ -272,6 +273,67 @@ static void ends(void)
         }
 }
 
+/* A copy of so many bytes, behind which nothing can be read, and which cannot be written but where `rights` say so. */
+static void *fenced_bytes(const void *bytes, size_t count, int rights)
+{
+    const size_t page = 1 << 16;
+    char *pages = mmap(NULL, 2 * page, PROT_READ | PROT_WRITE, MAP_PRIVATE | MAP_ANONYMOUS, -1, 0);
+    if (pages == MAP_FAILED) {
+        expect("fenced pages", 0);
+        return NULL;
+    }
+    char *first_byte = pages + page - count;
+    memcpy(first_byte, bytes, count);
+    mprotect(pages, page, rights);
+    mprotect(pages + page, page, PROT_NONE);
+    return first_byte;
+}
+
+/* `count` numbers of an array behind which nothing can be read, and which cannot be written. */
+static int64_t *fenced(const int64_t *numbers, size_t count)
+{
+    return fenced_bytes(numbers, count * sizeof(int64_t), PROT_READ);
+}
+
+/* A calm of every angle at each point, in a first record on made-up rows and in a later one, in arrays behind which nothing can be read. */
+static void calms(void)
+{
+    static const int64_t angle[] = {0, 1, 3599, -1, 3600, INT64_MAX, INT64_MIN};
+    static const int number[] = {0, 18, 18, 9, 9, 9, 9};
+    for (int later = 0; later < 2; later++)
+        for (int i = 0; i < 14; i++) {
+            int64_t field[6];
+            memcpy(field, first, sizeof field);
+            field[3 * (i / 7)] = 0;
+            field[3 * (i / 7) + 1] = angle[i % 7];
+            const int64_t *lent = fenced(field, 6);
+            prepare(0);
+            rows[0] = (fennhop_row){-5, 5, 7};
+            state[1] = later;
+            keep();
+            uint64_t n = fennhop_take_record(300, 25, 0, points, 4, later, 0, lent, 6, state, 2, rows, 1, setup, 2, answer, 3);
+            if (number[i % 7])
+                refused("a calm that has a direction", n, number[i % 7], i / 7 + 1);
+            else
+                expect("a calm", n == 0 && state[0] == later && state[1] == 1);
+        }
+}
+
+/* The last of the most points calm with a direction, and then with none. */
+static void late_calm(void)
+{
+    int64_t *last = long_first + 3 * MANY, was_there = last[0];
+    prepare(MANY);
+    last[0] = 0;
+    refused("a calm at the last point", take_long(rows, MANY, 2 * MANY), FENNHOP_REFUSED_CALM_ANGLE, FENNHOP_MOST_POINTS);
+    last[1] = 0;
+    expect("a calm without a direction", take_long(rows, MANY, 2 * MANY) == 0 && state[1] == 1);
+    expect("its row, and one before it", is_row(&rows[MANY - 1], 0, 0, INT64_C(28640000) * 10000) &&
+                                             is_row(&rows[MANY - 2], 0, 0, INT64_C(57280000) * 10000));
+    last[0] = was_there;
+    last[1] = 900;
+}
+
 /* The ends of int64_t in each of 64 rows; the first bad row is told, whatever stands in the later ones. */
 static void row_ends(void)
 {
@@ -338,28 +400,6 @@ static void make_ends(void)
     }
 }
 
-/* A copy of so many bytes, behind which nothing can be read, and which cannot be written but where `rights` say so. */
-static void *fenced_bytes(const void *bytes, size_t count, int rights)
-{
-    const size_t page = 1 << 16;
-    char *pages = mmap(NULL, 2 * page, PROT_READ | PROT_WRITE, MAP_PRIVATE | MAP_ANONYMOUS, -1, 0);
-    if (pages == MAP_FAILED) {
-        expect("fenced pages", 0);
-        return NULL;
-    }
-    char *first_byte = pages + page - count;
-    memcpy(first_byte, bytes, count);
-    mprotect(pages, page, rights);
-    mprotect(pages + page, page, PROT_NONE);
-    return first_byte;
-}
-
-/* `count` numbers of an array behind which nothing can be read, and which cannot be written. */
-static int64_t *fenced(const int64_t *numbers, size_t count)
-{
-    return fenced_bytes(numbers, count * sizeof(int64_t), PROT_READ);
-}
-
 /* Nothing is read behind an array, and a refused call writes no room: memory that cannot be written will do. */
 static void make_fenced(void)
 {
@@ -379,6 +419,29 @@ static void make_fenced(void)
     refused("a short room that cannot be written", n, FENNHOP_REFUSED_LENT, 0);
     prepare(0);
     untouched("an answer too short, fenced", fennhop_make_record(2800, 3100, 401, 0, 0, 7, 8, list, 4, place, 6, shut, 6, answer, 2));
+}
+
+/* Calms that are made, at the centre and at 401: from a row of the list, inside its first radius, beyond its last, and from a wind between
+ * two rows that is rounded down. They get angle 0, and the march takes what was made. The angle that is given is judged. */
+static void made_calms(void)
+{
+    static const int64_t list[][4] = {{401, 0, 701, 0}, {400, 0, 401, 9}, {0, 9, 400, 0},
+                                      {400, 1, 402, 0}, {0, 1, 30000, 0}, {0, 0, 802, 2}};
+    static const int64_t wind[][2] = {{0, 0}, {0, 9}, {9, 0}, {1, 0}, {1, 0}, {0, 1}};
+    for (int i = 0; i < 6; i++) {
+        int64_t made[6] = {wind[i][0], wind[i][0] ? 900 : 0, 300, wind[i][1], wind[i][1] ? 1800 : 0, 189};
+        prepare(1);
+        uint64_t n = fennhop_make_record(2800, 3100, 401, 0, 0, 0, 0, list[i], 4, sites, 6, storm, 6, answer, 3);
+        expect("calms that are made", n == 0 && !memcmp(storm, made, sizeof made) && same(STORM, 6));
+        n = fennhop_take_record(300, 25, 0, points, 4, answer[1], answer[2], storm, 6, state, 2, rows, 1, setup, 2, answer, 3);
+        expect("what was made is taken", n == 0 && state[1] == 1);
+        int64_t place[6];
+        memcpy(place, sites, sizeof place);
+        place[2 + 3 * (i & 1)] = 3600;
+        prepare(0);
+        n = fennhop_make_record(2800, 3100, 401, 0, 0, 0, 0, list[i], 4, place, 6, storm, 6, answer, 3);
+        refused("the given angle of a point", n, FENNHOP_REFUSED_STORM_VALUE, 1 + (i & 1));
+    }
 }
 
 /* The deck's text, at the front of what was lent for it. */
@@ -513,9 +576,12 @@ int main(void)
     accepted();
     started();
     ends();
+    calms();
+    late_calm();
     row_ends();
     make_counts();
     make_ends();
+    made_calms();
     make_fenced();
     deck_counts();
     deck_ends();

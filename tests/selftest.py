@@ -1,8 +1,8 @@
 # Tests of the model and of the generators: document 01's reference runs, the
 # readings of its text, the exact march within every range, ranges against a
 # dense sample of fractions, and the fast path against the fractions; document
-# 02's storm maker and its decks by numbers worked out by hand, and its coefficient
-# by those that TM-35 prints.
+# 02's storm maker, its decks and its calms by numbers worked out by hand, and its
+# coefficient by those that TM-35 prints.
 #
 #   python3 selftest.py        the last line is `N passed, M failed`
 
@@ -20,7 +20,7 @@ from unittest import mock
 import calls
 import deck_calls
 import make_calls
-from gen import cases, damage, decks, edges, hurricanes, values
+from gen import calms, cases, damage, decks, edges, hurricanes, values
 from model import deck, exact, fast, forcing, hurricane, march, program, ranges, reader, refread
 from model.sine import TABLE, cosine, sine
 
@@ -379,6 +379,79 @@ def test_record_checks():
     same(refusal_of(state=march.State(10**9 - 599, True)), (9, 0))
 
 
+def calm_at(place, angle=5, other=(500, 300, 10)):
+    """Four points, of which one is calm."""
+    return tuple((0, angle, 10) if k == place else other for k in range(1, 5))
+
+
+def test_calm_checks():
+    """Check 18 by hand: its place, and that it comes between 9 and the march."""
+    for state, seconds in ((march.State(0, False), 0), (march.State(600, True), 600)):
+
+        def told(points, **changes):
+            return refusal_of(state=state, record=march.Record(seconds, 0, points), **changes)
+
+        for place in (1, 2, 3, 4):
+            same(told(calm_at(place, 0)), None)
+            same([told(calm_at(place, angle)) for angle in (1, 3599)], [(18, place)] * 2)
+            same([told(calm_at(place, angle)) for angle in (-1, 3600)], [(9, place)] * 2)
+        same([told(field(4, 0, angle)) for angle in (0, 1)], [None, (18, 1)])
+        same([told(field(4, 1, angle)) for angle in (0, 1, 3599)], [None] * 3)
+        same([told(field(4, -1, angle)) for angle in (0, 5)], [(9, 1)] * 2)
+        # two calms, and a 9 before, at and after a calm
+        same(told(calm_at(1)[:2] + calm_at(4)[2:]), (18, 1))
+        same(told(calm_at(1)[:3] + field(1, deficit=301)), (9, 4))
+        same(told(field(1, angle=3600) + calm_at(3)[1:]), (9, 1))
+        same(told(((0, 5, 301),) + field(3)), (9, 1))
+        # a segment without water, and rows and places that are not as they have to be
+        dry = TRAVERSE._replace(points=((30, 0), (20, 0), (10, 500), (0, 400)))
+        same([told(calm_at(4, angle), traverse=dry) for angle in (0, 5)], [(10, 1), (18, 4)])
+        same(told(calm_at(1), rows=[march.Row(1, 0, 0)] * 3), (8, 1))
+        same(told(calm_at(1), places=[5]), (8, 0))
+        same(told(calm_at(1), rows=[march.Row(-5, 5, 5)] * 3, places=[5] * 6), (18, 1))
+    same(refusal_of(record=march.Record(3601, 0, calm_at(1))), (9, 0))
+    same(refusal_of(record=march.Record(600, -2001, calm_at(1))), (9, 0))
+    same(refusal_of(record=march.Record(600, 0, calm_at(1)), state=march.State(10**9, True)), (9, 0))
+
+
+def test_calm_sides():
+    for lent, want in calms.side_calls():
+        same((calms.record_of(lent), lent.outcome()), (calms.record_of(lent), want))
+
+
+def test_calm_pairs():
+    """The first of two faults is answered, and the other one is there as well: it is
+    answered where the calm has no direction."""
+    met = set()
+    for lent, first, calm, other in calms.call_pairs():
+        same(lent.outcome(), (first.number, first.place))
+        met.add((lent.state.accepted, other.number, calm.place < other.place))
+        record = calms.record_of(lent)
+        if other.number not in (9, 18) and len(record) > 1 + calm.place:
+            record[1 + calm.place][1] = 0
+            same(lent.outcome(), (other.number, other.place))
+    for later in (False, True):
+        numbers = {number for state, number, _ in met if state == later}
+        same(numbers, set(calms.ORDER) - (set() if later else {11}))
+        segments = {n for state, n, after in met if state == later and not after}
+        same(segments >= {9, 10, 12}, True)
+
+
+def test_calm_files():
+    """The same through files; what goes before the record is accepted."""
+    rng = random.Random(28)
+    numbers = []
+    for _, run in calms.file_runs(rng):
+        numbers.append((run.outcome() or (0,))[0])
+        texts = run.traverse_text(), run.storm_text()
+        same(program.listing(*texts, fast), program.listing(*texts))
+    same(set(numbers), {0, 5, 6, 7, 9, 18})
+    for run, calm in calms.flux_runs(rng):
+        same(tuple(run.outcome()), (18, calm))
+        run.records[-1][1 + calm][1] = 0
+        same(run.outcome().number, 11)
+
+
 def test_first_record_is_fresh():
     """A first record works as if all rows were fresh, and fills them."""
     record = march.Record(0, 10, field(4, 900, 1000))
@@ -392,6 +465,108 @@ def test_first_record_is_fresh():
     same(*answers)
     total = 2 * forcing.cross(900, 1000)
     same(fresh, [march.Row(0, 0, total)] * 3)
+
+
+# Mistakes in check 18: what each does in place of check 9 or 18, or of the march.
+
+
+def points_one_by_one(state, record, right=march.check_record):
+    """9 and 18 of a point before the next point."""
+    for place in range(1, len(record.points) + 1):
+        some = record._replace(points=record.points[:place])
+        refusal = right(state, some) or march.check_calms(some)
+        if refusal:
+            return refusal
+    return None
+
+
+def calms_first(state, record, right=march.check_record):
+    return march.check_calms(record) or right(state, record)
+
+
+def calms_before_rows(*lent, right=march.check_lent):
+    return march.check_calms(lent[3]) or right(*lent)
+
+
+def first_record_free(record, right=march.check_calms):
+    """Calms of a first record, whose seconds are 0, not looked at."""
+    return right(record) if record.seconds else None
+
+
+def last_calm(record, right=march.check_calms):
+    alone = [record._replace(points=(point,)) for point in record.points]
+    found = [k for k, point in enumerate(alone, 1) if right(point)]
+    return march.Refusal(18, found[-1]) if found else None
+
+
+def calms_where(has_fault, shift=0):
+    def mistake(record):
+        found = [k for k, point in enumerate(record.points, 1) if has_fault(*point)]
+        return march.Refusal(18, found[0] + shift) if found else None
+
+    return mistake
+
+
+def all_but_the(part):
+    """Some points not looked at."""
+
+    def mistake(record, right=march.check_calms):
+        return right(record._replace(points=part(record.points)))
+
+    return mistake
+
+
+def march_first(traverse, state, rows, setup, record, *formulas, right=march.take_record):
+    """18 behind 10, 11 and 12."""
+    with mock.patch.object(march, "check_calms", lambda record: None):
+        answer = right(traverse, state, list(rows), list(setup), record, *formulas)
+    if isinstance(answer, march.Refusal):
+        return answer
+    return right(traverse, state, rows, setup, record, *formulas)
+
+
+CALM_MISTAKES = (
+    ("no check", "check_calms", lambda record: None),
+    ("a point's 9 and 18 together", "check_record", points_one_by_one),
+    ("18 before 9", "check_record", calms_first),
+    ("18 before 8", "check_lent", calms_before_rows),
+    ("18 after the march", "take_record", march_first),
+    ("in later records alone", "check_calms", first_record_free),
+    ("the last calm", "check_calms", last_calm),
+    ("the shore point left out", "check_calms", all_but_the(lambda points: points[:-1])),
+    ("the first point alone", "check_calms", all_but_the(lambda points: points[:1])),
+    ("points from 0", "check_calms", calms_where(lambda w, a, d: w == 0 and a != 0, -1)),
+    ("a wind of 1 too", "check_calms", calms_where(lambda w, a, d: w <= 1 and a != 0)),
+    ("an angle of 1 passes", "check_calms", calms_where(lambda w, a, d: w == 0 and a > 1)),
+    ("every calm", "check_calms", calms_where(lambda w, a, d: w == 0)),
+    ("a wind without an angle", "check_calms", calms_where(lambda w, a, d: w != 0 and a == 0)),
+)
+
+
+def calm_outcomes():
+    found = [lent.outcome() for lent, *_ in (*calms.side_calls(), *calms.call_pairs())]
+    return found, [run.outcome() for _, run in calms.file_runs(random.Random(30))]
+
+
+def hand_calm_cases_fail():
+    """Whether the cases by hand notice it."""
+    try:
+        test_calm_checks()
+    except AssertionError:
+        return True
+    return False
+
+
+def test_calm_mistakes_are_noticed():
+    right = calm_outcomes()
+    for label, name, mistake in CALM_MISTAKES:
+        with mock.patch.object(march, name, mistake):
+            wrong = calm_outcomes()
+            by_hand = hand_calm_cases_fail()
+        noticed = [sum(a != b for a, b in zip(*both)) for both in zip(wrong, right)]
+        shown = (label, noticed[0], len(right[0]), noticed[1], len(right[1]))
+        print("  %-28s noticed in %4d of %d calls, %3d of %d files" % shown)
+        assert by_hand and noticed[0] > 1 and (noticed[1] > 1 or name == "check_lent"), label
 
 
 # Text, by hand from the readings of document 01.
@@ -445,6 +620,20 @@ STORM_TEXTS = (
     (STORM + CALM * 2 + b"60 0 0 0 0 0\n", b"0 0 0\nrefused 2 4\n"),
     (STORM + CALM + STORM, b"refused 2 3\n"),
     (STORM + b"0 -999999999 0 0 0\n" * 2, b"refused 9 0\n"),
+    # a calm that has a direction: 2, 3 and 4 of its record come first, 9 too
+    (STORM + CALM + b"0 0 0 1 0\n", b"refused 18 2\n"),
+    (STORM + b"0 0 0 3599 0\n" * 2, b"refused 18 1\n"),
+    (STORM + b"0 0 0 3600 0\n" * 2, b"refused 9 1\n"),
+    (STORM + b"0 0 -1 5 0\n" * 2, b"refused 9 1\n"),
+    (STORM + b"0 0 1 3599 0\n" * 2, b"0 0 1\n"),
+    (STORM + b"0 0 0 5 0\n" + b"0 0 1 5 301\n", b"refused 9 2\n"),
+    (STORM + b"0 2001 0 5 0\n" * 2, b"refused 9 0\n"),
+    (STORM + b"0 0 0 5 0\n" + b"1 0 0 0 0\n", b"refused 4 3\n"),
+    (STORM + b"0 0 0 5 0\n" + b"0 1 0 5 0\n", b"refused 4 3\n"),
+    (STORM + b"0 0 0 5 0\n" + b"0 0 0 00 0\n", b"refused 2 3\n"),
+    (STORM + b"0 0 0 5 0\n", b"refused 3 2\n"),
+    (STORM + b"0 0 0 5 0\n" * 2 + b"x\n", b"refused 18 1\n"),
+    (STORM + CALM * 2 + b"60 0 0 0 0\n" + b"60 0 0 5 0\n", b"0 0 0\nrefused 18 2\n"),
 )
 
 
@@ -706,14 +895,57 @@ def test_made_record():
     same(make_calls.outcome(call._replace(answer=(1, 2)))[:2], (255, (1, 2)))
 
 
-def test_made_records_pass_check_9():
+def made_points(call):
+    """The points that a call makes; none where it is refused."""
+    number, _, room = make_calls.outcome(call)
+    return () if number else make_calls.groups(tuple(room[: len(call.sites)]), 3)
+
+
+def test_made_records_pass_checks_9_and_18():
     rng = random.Random(21)
-    for call in hurricanes.random_calls(rng, 400):
-        number, _, room = make_calls.outcome(call)
-        if number == 0:
-            points = make_calls.groups(tuple(room[: len(call.sites)]), 3)
-            record = march.Record(0, 0, points)
-            same(march.check_record(march.State(0, False), record), None)
+    for call in (*hurricanes.random_calls(rng, 400), *hurricanes.calm_calls(rng)):
+        record = march.Record(0, 0, made_points(call))
+        same(march.check_record(march.State(0, False), record), None)
+        same(march.check_calms(record), None)
+
+
+def made_at(winds, angle, *radii):
+    """Wind and angle of what is made at these distances, each point given the angle."""
+    call = hurricanes.call_of(storm_at(), winds, [(r, 0, angle) for r in radii])
+    return [point[:2] for point in made_points(call)]
+
+
+def test_made_calms():
+    """By hand: a calm of each kind, and the winds next to it."""
+    for angle in (0, 1, 3599):
+        calm, one = (0, 0), (1, angle)
+        # the end rows' wind inside the first radius and beyond the last
+        same(made_at(((50, 0),), angle, 0, 49, 50, 51, 9999), [calm] * 5)
+        same(made_at(((50, 0), (53, 3)), angle, 0, 49, 50, 51, 54), [calm] * 3 + [one, (3, angle)])
+        same(made_at(((50, 3), (53, 0)), angle, 49, 52, 53, 54, 9999), [(3, angle), one] + [calm] * 3)
+        # a row of wind 0 between two others
+        same(made_at(((4, 1), (5, 0), (6, 1)), angle, 4, 5, 6), [one, calm, one])
+        # rounded down: 5/10 rising, 9/10 falling; of 2 to 0 the half way is just 1
+        same(made_at(((0, 0), (10, 1)), angle, 5, 9, 10), [calm, calm, one])
+        same(made_at(((0, 1), (10, 0)), angle, 0, 1, 9), [one, calm, calm])
+        same(made_at(((0, 2), (10, 0)), angle, 5, 6), [one, calm])
+    # the given angle is judged, at a calm as at a wind
+    for given in (-1, 3600):
+        sites = (0, 0, 900, 9, 0, given)
+        same([refusal_in(winds=w, sites=sites) for w in ((5, 0), (5, 9))], [(13, 2)] * 2)
+
+
+def test_calm_calls_have_calms():
+    """With each list and each angle; a wind keeps its angle."""
+    met = set()
+    for call in hurricanes.calm_calls(random.Random(29)):
+        for (wind, angle, _), given in zip(made_points(call), call.sites[2::3]):
+            met.add((call.winds, wind == 0, given))
+            same(angle, given if wind else 0)
+    for winds in hurricanes.CALM_LISTS:
+        for angle in hurricanes.CALM_ANGLES:
+            same((winds, (hurricanes.flat(winds), True, angle) in met), (winds, True))
+    same(len({winds for winds, calm, _ in met if not calm}), len(hurricanes.CALM_LISTS) - 2)
 
 
 def test_storm_calls_reach_all():
@@ -766,8 +998,29 @@ def radii_first(storm, winds, sites, right=hurricane.check_values):
     return hurricane.check_radii(winds) or right(storm, winds, sites)
 
 
+def angle_kept(speed, given):
+    return given
+
+
+def none_in_faint_winds(speed, given):
+    return given if speed > 1 else 0
+
+
+def judged_as_made(storm, winds, sites, right=hurricane.check_values):
+    """A calm's given angle not judged."""
+    if not winds:
+        return right(storm, winds, sites)
+    speeds = [hurricane.wind(winds, hurricane.distance(storm, site)) for site in sites]
+    made = [(x, y, angle if speed else 0) for (x, y, angle), speed in zip(sites, speeds)]
+    return right(storm, winds, made)
+
+
 STORM_MISTAKES = (
     ("wind", toward_nought, "wind"),
+    ("wind", toward_nought, "calm"),
+    ("angle_for", angle_kept, "calm"),
+    ("angle_for", none_in_faint_winds, "calm"),
+    ("check_values", judged_as_made, "calm"),
     ("wind", nothing_beyond, "wind"),
     ("distance", nearest_root, "wind"),
     ("hundredths", nearest_ratio, "wind"),

@@ -3,7 +3,7 @@
 
 from collections import namedtuple
 
-from . import damage, edges, values
+from . import calms, damage, edges, values
 from .run import Run
 
 # traverse, storm: bytes, or one of the words below for what stands there.
@@ -110,6 +110,11 @@ def large_cases(run):
             yield Case("large line", traverse, text)
 
 
+def calm_turned(line):
+    """A line of a storm as a calm that has a direction."""
+    return damage.replaced(damage.replaced(line, 2, b"0"), 3, b"5")
+
+
 def pair_cases(run):
     """Two faulty lines and two faults on one line of a storm, in both orders."""
     traverse, storm = run.traverse_text(), run.storm_text()
@@ -124,6 +129,7 @@ def pair_cases(run):
         lambda line: change(line, 1, b"2001"),
         lambda line: change(line, 2, b"2001"),
         lambda line: change(line, 3, b"-1"),
+        calm_turned,
         lambda line: line + b" 1",
         lambda line: b"",
     )
@@ -138,10 +144,12 @@ def pair_cases(run):
 
 
 def cut_after_fault(run):
-    """A faulty line in a record that the text does not end: the line decides."""
+    """A faulty line in a record that the text does not end: the line decides, and
+    the text's end where the fault is a calm that has a direction."""
     traverse, storm = run.traverse_text(), run.storm_text()
+    calm = lambda line: calm_turned(line) + b"\n"
     for index in range(1, 9):
-        for kind in (damage.value_damage(b"05", 2), damage.value_damage(b"77", 0)):
+        for kind in (damage.value_damage(b"05", 2), damage.value_damage(b"77", 0), calm):
             lines = damage.split_lines(damage.at_line(storm, index, kind))
             for size in range(index, len(lines) + 1):
                 yield Case("cut", traverse, b"".join(l + b"\n" for l in lines[:size]))
@@ -163,7 +171,10 @@ def text_cases():
 
 
 def value_cases(rng):
-    """Limits from both sides and the edges of flux and setup."""
+    """Limits from both sides, a calm's direction beside each other fault, and the
+    edges of flux and setup."""
+    for label, run in calms.file_runs(rng):
+        yield of_run(label, run)
     for run in values.limit_runs(rng):
         yield of_run("limits", run)
     for run in values.step_runs(rng):
@@ -244,9 +255,12 @@ def window_case(rng):
     run = values.ordinary(rng, rng.choice((1, 2, 4)), 1)
     count = len(run.points)
     lines = [b"seconds tide wind angle deficit\n"]
+    # every 200th record is calm; in some storms it keeps its direction
+    angles = values.angle_for if rng.random() < 0.8 else lambda wind, angle: angle
     for k in range(rng.randint(50, 2500 // count)):
-        deficit = rng.randint(0, 300)
-        line = b"%d %d %d %d %d\n" % (60 if k else 0, k % 90, k % 200, k % 900, deficit)
+        wind, deficit = k % 200, rng.randint(0, 300)
+        angle = angles(wind, k % 900)
+        line = b"%d %d %d %d %d\n" % (60 if k else 0, k % 90, wind, angle, deficit)
         lines.append(line * count)
     storm = b"".join(lines)
     kind = rng.random()

@@ -159,9 +159,30 @@ def record_causes():
     yield ("setup", run.traverse_text(), run.storm_text(), None, ("from -100 ft to 100 ft", "shallow"))
 
 
+def calm_causes():
+    """Refusal 18: in a first record, a later one and the last, at the first point, one between and the last; and what comes before it."""
+    rule = "limits: a wind of 0 carries angle 0\n"
+    for record, start in enumerate((b"0 -5 ", b"1800 10 ", b"3600 -100 "), 1):
+        ended = ("the record before it ended at %d s\n" % (0, 1800)[record - 2],) if record > 1 else ()
+        for point, fields in enumerate((b"0 1 300", b"0 2700 0", b"0 3599 12"), 1):
+            line = 3 * record - 2 + point
+            where = "in storm.txt, line %d, record %d, point %d\n" % (line, record, point)
+            yield ("calm", GOOD[0], with_line(GOOD[1], line, start + fields), None, (where, rule, "left out or not read") + ended)
+    storm = with_line(with_line(GOOD[1], 9, b"3600 -100 0 5 0"), 10, b"3600 -100 0 6 0")
+    yield ("two calms", GOOD[0], storm, None, ("refused 18 2", "wind 0, angle 5\n"))
+    storm = with_line(with_line(GOOD[1], 8, b"3600 -100 0 5 0"), 10, b"3600 -100 2001 5 0")
+    yield ("9 behind a calm", GOOD[0], storm, (10, 14), ("refused 9 3", "wind 2001\n"))
+    yield ("a calm past the limits", GOOD[0], with_line(GOOD[1], 8, b"3600 -100 0 3600 0"), (12, 16), ("refused 9 1", "angle 3600\n"))
+    points = [[i, 500] for i in range(64, -1, -1)]
+    run = Run(300, 25, 0, points, [[s, 0] + [[500, 300, 5]] * 65 for s in (0, 600)])
+    run.records[1][-1] = [0, 300, 5]
+    yield ("65 points", run.traverse_text(), run.storm_text(), None, ("in storm.txt, line 131, record 2, point 65\n",))
+
+
 def every():
     yield from names_causes()
     yield from value_causes()
     yield from text_causes()
     yield from limit_causes()
     yield from record_causes()
+    yield from calm_causes()

@@ -10,12 +10,13 @@ from .values import near_nought, outcome_with, split_at
 
 def setup_try(rng, way):
     """A shallow segment that takes setup close to its limit, then a deep one
-    whose shore wind adds a little in fine steps."""
+    whose shore wind adds a little in fine steps. It begins at 1: a wind of 0 with
+    this angle would be refused with 18."""
     short = rng.randint(3, 6)
     first = rng.randint(20, 60)
     second = rng.randint(100, 112) - first
     points = [[100 + short, first], [short, second], [0, rng.randint(3500, 4500)]]
-    winds = [rng.randint(1850, 2000), rng.randint(1850, 2000), 0]
+    winds = [rng.randint(1850, 2000), rng.randint(1850, 2000), 1]
     record = [0, rng.randint(-30, 30)] + [[w, way, 0] for w in winds]
     return Run(rng.randint(0, 900), 25, 0, points, [record])
 
@@ -27,7 +28,7 @@ def setup_edge(rng):
         place = (run.records[0][4], 0)
         refusal = outcome_with(run, place, 2000)
         if run.outcome() is None and refusal is not None and refusal.number == 12:
-            return split_at(run, place, 0, 2000)
+            return split_at(run, place, 1, 2000)
 
 
 def deep_record(seconds, wind, way):
@@ -54,11 +55,12 @@ def flux_edge(rng):
             continue
         last = split_at(run, (run.records[-1], 0), 1, 3600)[0]
         last.records[-1][0] = max(1, last.records[-1][0] - rng.randint(3, 12))
-        last.records.append(deep_record(20, 0, way))
+        # no calm, since it has an angle
+        last.records.append(deep_record(20, 1, way))
         place = (last.records[-1][3], 0)
         refusal = outcome_with(last, place, 2000)
         if last.outcome() is None and refusal is not None:
-            return split_at(last, place, 0, 2000)
+            return split_at(last, place, 1, 2000)
 
 
 class EndsOnly:

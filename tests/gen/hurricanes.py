@@ -1,6 +1,7 @@
 # Calls of the storm maker, request Q-1 of document 02: every entry of the table,
-# every distance, every limit from both sides, the ends of 64 bits, counts and
-# rooms of any length, each fault at each place and two at once, and random calls.
+# every distance, calms of every kind (request Q-4), every limit from both sides, the
+# ends of 64 bits, counts and rooms of any length, each fault at each place and two
+# at once, and random calls.
 
 from collections import namedtuple
 from math import isqrt
@@ -195,6 +196,44 @@ def wind_calls(rng):
         sites = [corner.site(r) for r in distances_of(rng, winds)]
         for part in pieces(sites, 65):
             yield call_of(corner.storm(rng.randint(0, 300), 350), winds, part)
+
+
+# Calms.
+
+# Lists of winds of which each has calms: in a row of wind 0 and on both sides of it,
+# inside the first radius and beyond the last, and where a wind between two rows is
+# rounded down to 0.
+CALM_LISTS = (
+    ((500, 0),),
+    ((100, 0), (400, 900)),
+    ((100, 900), (400, 0)),
+    ((100, 0), (400, 900), (700, 0)),
+    ((0, 700), (300, 0), (600, 700)),
+    ((300, 0), (301, 0), (400, 2000)),
+    ((50, 0), (100, 1), (150, 0), (200, 2), (250, 0)),
+    ((10, 1), (1010, 0)),
+    ((10, 0), (1010, 1)),
+    ((10, 2), (1010, 0)),
+    ((0, 0), (30_000, 1)),
+    ((0, 1), (30_000, 0)),
+)
+CALM_ANGLES = 0, 1, 3599
+
+
+def calm_calls(rng):
+    """Every angle at each distance; then an angle past its limits at each of the
+    nearest and the farthest points, of which one at least is calm."""
+    for winds in CALM_LISTS:
+        corner = Corner(rng)
+        distances = distances_of(rng, winds)
+        places = [corner.site(r)[:2] for r in distances for _ in CALM_ANGLES]
+        sites = [(*xy, CALM_ANGLES[i % 3]) for i, xy in enumerate(places)]
+        for part in pieces(sites, 65):
+            yield call_of(corner.storm(rng.choice((0, 300)), 350), winds, part, 2)
+        call = call_of(corner.storm(300, 350), winds, sites[:6] + sites[-6:])
+        for place in range(2, len(call.sites), 3):
+            for angle in (-1, 3600, LEAST, GREATEST):
+                yield with_number(call, "sites", place, angle)
 
 
 # Limits and the ends of 64 bits.
@@ -428,7 +467,9 @@ def random_list(rng):
     count = rng.choice((1, 2, 2, 3, 4, 6, 10, 20, 50))
     longest = rng.choice((60, 400, 3000, 30_000))
     radii = sorted(rng.sample(range(longest + 1), count))
-    return [(radius, any_number(rng, march.WIND)) for radius in radii]
+    # faint winds are rounded down to a calm in many places
+    limits = rng.choice((march.WIND, march.WIND, march.WIND, (0, 2)))
+    return [(radius, any_number(rng, limits)) for radius in radii]
 
 
 def random_sites(rng, winds, storm):
@@ -476,6 +517,7 @@ FIXED = {
     "drop": drop_calls,
     "root": root_calls,
     "wind": wind_calls,
+    "calm": calm_calls,
     "limit": limit_calls,
     "end": end_calls,
     "count": count_calls,

@@ -4,7 +4,7 @@
 import math
 
 from .run import Run
-from .values import sloping_points
+from .values import angle_for, sloping_points
 
 
 def long_run(rng, segments, records):
@@ -23,19 +23,21 @@ def long_run(rng, segments, records):
         field = []
         for i, factor in enumerate(strength):
             wind = int(peak * factor * rng.uniform(0.9, 1))
-            field.append([wind, (angle + 7 * i) % 3600, int(150 * share)])
+            way = angle_for(wind, (angle + 7 * i) % 3600)
+            field.append([wind, way, int(150 * share)])
         rows.append([rng.randint(600, 3600) if k else 0, tide] + field)
     return Run(rng.randint(200, 500), rng.randint(10, 50), 0, points, rows)
 
 
-def elapsed_text(extra):
-    """Two points; seconds that add up to 1,000,000,000 and then `extra`."""
-    calm = b"%d 0 300 900 0\n"
+def elapsed_text(extra, last=b"300 900"):
+    """Two points; seconds that add up to 1,000,000,000 and then `extra`, with the
+    last record's wind and angle."""
+    line = b"%d 0 300 900 0\n"
     whole, rest = divmod(1_000_000_000, 3600)
-    lines = [b"seconds tide wind angle deficit\n", calm % 0 * 2]
-    lines.append(calm % 3600 * (2 * whole) + calm % rest * 2)
+    lines = [b"seconds tide wind angle deficit\n", line % 0 * 2]
+    lines.append(line % 3600 * (2 * whole) + line % rest * 2)
     if extra:
-        lines.append(calm % extra * 2)
+        lines.append(b"%d 0 %b 0\n" % (extra, last) * 2)
     return b"".join(lines)
 
 
@@ -52,6 +54,10 @@ def late_faults(rng):
         late = run.copy()
         late.records[-3][2 + index][0] = 2001
         yield "late wind", traverse, late.storm_text()
+    for index in (0, 3):
+        late = run.copy()
+        late.records[-2][2 + index][:2] = [0, 3599]
+        yield "late calm", traverse, late.storm_text()
     late = run.copy()
     late.records[-1][0] = 3601
     yield "late seconds", traverse, late.storm_text()
@@ -62,8 +68,9 @@ def late_faults(rng):
 def long_texts(rng):
     """(label, traverse, storm), the largest last."""
     yield from late_faults(rng)
-    calm_traverse = Run(300, 25, 0, [[10, 500], [0, 500]], []).traverse_text()
-    yield "elapsed limit reached", calm_traverse, elapsed_text(0)
-    yield "elapsed limit passed", calm_traverse, elapsed_text(1)
+    two_points = Run(300, 25, 0, [[10, 500], [0, 500]], []).traverse_text()
+    yield "elapsed limit reached", two_points, elapsed_text(0)
+    # a calm that has a direction as well: 9 comes first
+    yield "elapsed limit passed", two_points, elapsed_text(1, b"0 900")
     run = long_run(rng, 64, 20_000)
     yield "20,000 records of 65 points", run.traverse_text(), run.storm_text()

@@ -1,5 +1,5 @@
-# Runs whose text is sound: ordinary and extreme storms, runs at the edge of a
-# limit, runs with one or two faults in their values (refusals 5 to 12).
+# Runs whose text is sound: ordinary and extreme storms, storms with calms, runs at
+# the edge of a limit, runs with faults in their values (refusals 5 to 12 and 18).
 
 from model import march
 
@@ -13,6 +13,11 @@ def log_uniform(rng, low, high):
 def small_count(rng):
     """Segments: mostly few, now and then up to 64."""
     return rng.choice((1, 1, 2, 2, 3, 3, 4, 5, 6, 8, 12, 20, 64))
+
+
+def angle_for(wind, angle):
+    """The angle that a sound point carries with this wind: a calm has none."""
+    return angle if wind else 0
 
 
 def distances(rng, segments, longest=100):
@@ -44,7 +49,8 @@ def storm_winds(rng, points, records, strongest, spread):
         for _ in range(points):
             wind = int(peak * share * rng.uniform(1 - spread, 1))
             way = (angle + k * turn + rng.randint(-100, 100)) % 3600
-            field.append([wind, way, int(deficit * share * rng.uniform(0.9, 1))])
+            low = int(deficit * share * rng.uniform(0.9, 1))
+            field.append([wind, angle_for(wind, way), low])
         made.append(field)
     return made
 
@@ -80,14 +86,15 @@ def extreme(rng, segments=None, records=None):
             return rng.choice(limits)
         return rng.randint(*limits)
 
+    def pick_point():
+        wind, angle, deficit = map(pick, (march.WIND, march.ANGLE, march.DEFICIT))
+        return [wind, angle_for(wind, angle), deficit]
+
     points = [[d, pick(march.DEPTH)] for d in distances(rng, segments)]
     rows = []
     for k in range(records):
         seconds = pick(march.LATER_SECONDS) if k else 0
-        field = [
-            [pick(march.WIND), pick(march.ANGLE), pick(march.DEFICIT)]
-            for _ in range(segments + 1)
-        ]
+        field = [pick_point() for _ in range(segments + 1)]
         rows.append([seconds, pick(march.TIDE)] + field)
     head = [pick(march.LATITUDE), pick(march.FRICTION), pick(march.INITIAL)]
     return Run(*head, points, rows)
@@ -119,7 +126,7 @@ def shallow_water(rng, segments=None, records=None):
     way = rng.choice((0, 1800, rng.randrange(3600)))
     for field in fields:
         for point in field:
-            point[1] = (way + rng.randint(-200, 200)) % 3600
+            point[1] = angle_for(point[0], (way + rng.randint(-200, 200)) % 3600)
     rows = storm_records(rng, fields, 200)
     return Run(rng.choice((0, 450, 900)), rng.randint(10, 50), 0, points, rows)
 
@@ -134,7 +141,8 @@ def near_nought(rng):
     for k in range(faint + rng.randint(1, 3)):
         strongest = 60 if k < faint else rng.randint(600, 2000)
         way = rng.choice((900, 2700))
-        field = [[rng.randint(0, strongest), way, 0] for _ in range(segments + 1)]
+        winds = [rng.randint(0, strongest) for _ in range(segments + 1)]
+        field = [[wind, angle_for(wind, way), 0] for wind in winds]
         rows.append([rng.choice((60, 900, 3600)) if k else 0, 0] + field)
     return Run(rng.choice((100, 450, 900)), rng.randint(10, 50), 0, points, rows)
 
@@ -148,12 +156,27 @@ def calm_edge(rng):
     return Run(300, 25, 0, points, [[0, tide] + field, [3600, tide] + field])
 
 
+def with_calms(rng):
+    """Calms among the winds, at single points and over whole records; in some runs
+    one of them keeps a direction."""
+    run = rng.choice((ordinary, extreme, shallow_water))(rng)
+    for record in run.records:
+        share = rng.choice((0.2, 0.2, 0.5, 1))
+        for point in record[2:]:
+            if rng.random() < share:
+                point[:2] = [0, 0]
+    if rng.random() < 0.2:
+        fault_calm_angle(rng, run)
+    return run
+
+
 STYLES = (
     (ordinary, 40),
     (extreme, 25),
     (shallow_water, 15),
     (deep_water, 12),
     (near_nought, 12),
+    (with_calms, 12),
     (calm_edge, 3),
 )
 
@@ -267,6 +290,13 @@ def fault_field(rng, run):
     point[place] = outside(rng, (march.WIND, march.ANGLE, march.DEFICIT)[place])
 
 
+def fault_calm_angle(rng, run):
+    """A calm that has a direction, mostly the one left beside its wind: refusal 18."""
+    record = rng.choice(run.records)
+    point = rng.choice((record[2], record[-1], rng.choice(record[2:])))
+    point[:2] = [0, rng.choice((point[1] or 900, point[1] or 900, 1, 3599))]
+
+
 def fault_shallow(rng, run):
     """Depths that leave too little water at one segment: refusal 10."""
     pair = rng.randrange(max(1, len(run.points) - 1))
@@ -323,6 +353,7 @@ RECORD_FAULTS = (
     fault_tide,
     fault_field,
     fault_field,
+    fault_calm_angle,
     fault_shallow,
     fault_deep,
     fault_flux,
@@ -341,7 +372,8 @@ def faulty(rng, faults):
 
 def limit_runs(rng):
     """Every limit of every value from both sides, at the first, a middle and
-    the last point, in the first and in a later record; one change a run."""
+    the last point, in the first and in a later record; one change a run, and a
+    wind of 0 with angle 0 besides."""
     base = ordinary(rng, 4, 3)
     while base.outcome() is not None:
         base = ordinary(rng, 4, 3)
@@ -351,6 +383,10 @@ def limit_runs(rng):
             holder, place, _ = run.places()[index]
             holder[place] = value
             yield run
+            if limits is march.WIND and value == 0:
+                calm = run.copy()
+                calm.places()[index][0][1] = 0
+                yield calm
     for point in range(5):
         for value in (-1, 0, 6400, 6401):
             run = base.copy()

@@ -1,5 +1,6 @@
-# The storm maker, request Q-1 of document 02: a record from a hurricane's few
-# numbers, in exact fractions, and the listing of a hurricane along its track.
+# The storm maker, request Q-1 of document 02, with the calms of request Q-4: a
+# record from a hurricane's few numbers, in exact fractions, and the listing of a
+# hurricane along its track.
 # Written from the document and its readings alone; the quoted sentences are the
 # document's.
 #
@@ -92,6 +93,11 @@ def wind(winds, r):
     return winds[-1][1]
 
 
+def angle_for(speed, given):
+    """ "Each point's angle is given", but "a calm that Q-1 makes gets angle 0" """
+    return 0 if speed == 0 else given
+
+
 # The checks.
 
 
@@ -111,7 +117,8 @@ def check_storm(hurricane, winds, sites):
 
 
 def check_values(hurricane, winds, sites):
-    """ "(13) .. place is 0 .., then the list's row, then the point" """
+    """ "(13) .. place is 0 .., then the list's row, then the point". The given angle is
+    judged at a calm too."""
     if not check_storm(hurricane, winds, sites):
         return Refusal(13, 0)
     for place, (radius, speed) in enumerate(winds, 1):
@@ -153,8 +160,8 @@ def make_record(hurricane, seconds, tide, winds, sites, room):
     points = []
     for site in sites:
         r = distance(hurricane, site)
-        # "Each point's angle is given."
-        points.append((wind(winds, r), site[2], deficit(hurricane, r)))
+        speed = wind(winds, r)
+        points.append((speed, angle_for(speed, site[2]), deficit(hurricane, r)))
     room[: STRIDE * len(points)] = [number for point in points for number in point]
     return Record(seconds, tide, tuple(points))
 

@@ -1,7 +1,7 @@
 # Opening a traverse and taking a record: the limits, the checks 5 to 12 in
-# document 01's order with their places, and the steps of one record. Rows and
-# setup places are lists lent by the caller; a refused record leaves them, and
-# the state, as they were.
+# document 01's order with their places, check 18 of document 02 (request Q-4)
+# behind check 9, and the steps of one record. Rows and setup places are lists
+# lent by the caller; a refused record leaves them, and the state, as they were.
 
 from collections import namedtuple
 
@@ -121,6 +121,16 @@ def check_record(state, record):
     return None
 
 
+def check_calms(record):
+    """Check 18: "A wind of 0 must carry angle 0. It refuses the record otherwise (18)
+    with the point, directly after check 9": all points by 9, then all by 18; in a
+    first record too."""
+    for place, (wind, angle, _) in enumerate(record.points, 1):
+        if wind == 0 and angle != 0:
+            return Refusal(18, place)
+    return None
+
+
 Segment = namedtuple(
     "Segment",
     "friction sine length depths level deficits seconds first flux old_sum new_sum onshore",
@@ -179,6 +189,7 @@ def take_record(traverse, state, rows, setup, record, formulas=Fractions):
         check_traverse(traverse)
         or check_lent(traverse, rows, setup, record)
         or check_record(state, record)
+        or check_calms(record)
     )
     if refusal:
         return refusal
