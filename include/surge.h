@@ -17,8 +17,8 @@
  * distance from the centre, rounded down: the deficit is (edge - centre) * (1 - e^(-R/r)), equations 31 and 33 of TM-35, rounded down,
  * e^(-R/r) being the nearest ten-thousandth, with R/r rounded down to hundredths, 10 at most, and 10 where r is 0; the wind is that of
  * the list at r, straight between two rows and rounded down, the first row's inside its radius and the last row's beyond its own; the
- * angle is the one given. Seconds and tide are passed on as they are given: they, and the elapsed time, may still be refused by
- * fennhop_take_record (9, place 0). Every other number of a record that was made passes check 9.
+ * angle is the one given, or 0 where the wind is 0. Seconds and tide are passed on as they are given: they, and the elapsed time, may
+ * still be refused by fennhop_take_record (9, place 0). Every other number of a record that was made passes checks 9 and 18.
  *
  * AN OLD CARD DECK, the DIST and DEPTH cards of TM-50 as text and held whole by the caller, is turned into the text of traverse.txt by
  * fennhop_read_deck; latitude, friction and initial level are given. A card is a line: a word, a card number and one to six numbers,
@@ -38,7 +38,7 @@
  *   tide               0.01 ft                                    -2,000 to 2,000
  *   wind               0.1 mile per hour                          0 to 2,000
  *   angle              0.1 degree, counted leftward from the
- *                      traverse axis, which points shoreward      0 to 3,599
+ *                      traverse axis, which points shoreward      0 to 3,599; 0 where the wind is 0
  *   deficit            0.01 inch of mercury                       0 to 300
  *   flux               0.01 ft2/s along the shore                 -1,000,000 to 1,000,000
  *   cross sum          10^-13 mph2, sum of two stresses           -2,572,800,000,000 to 2,572,800,000,000
@@ -89,7 +89,8 @@
  * and for making a record:
  *
  *   winds    FENNHOP_WINDS_STRIDE numbers a row of the list, from the centre outward: radius, wind. 1 to 50 rows.
- *   sites    FENNHOP_SITES_STRIDE numbers a point, in the order of the traverse: x, y, angle. 2 to 65 points.
+ *   sites    FENNHOP_SITES_STRIDE numbers a point, in the order of the traverse: x, y, angle (0 to 3,599, whatever the wind). 2 to 65
+ *            points.
  *   storm    room for FENNHOP_STORM_STRIDE numbers a point of `sites` or more, which a record that is made sets as above; spare room
  *            behind them stays as it was. The march's call is given FENNHOP_STORM_STRIDE times the points as its count: room of just
  *            so many numbers is handed on as it is, and answer[1] and answer[2] with it as seconds and tide.
@@ -101,9 +102,9 @@
  *            behind it stays as it was. fennhop_read_traverse is given answer[1] as its count.
  *
  * WHAT A CALL RETURNS: 0 where it is accepted, else the number of the first refusal, with its place in answer[0] (lines, points, rows
- * and segments count from 1). Each number has a name below. The march's two calls make their checks in the order of this table, 5 to
- * 12 alone; the two that read a text return 1 to 5 alone, fennhop_make_record 13, 14 and 8 alone, and fennhop_read_deck 6, 3, 2, 15,
- * 16, 17 and 8 alone, in the order told at each.
+ * and segments count from 1). Each number has a name below. The march's two calls make checks 5 to 9, 18 and 10 to 12 alone, in this
+ * order; the two that read a text return 1 to 5 alone, fennhop_make_record 13, 14 and 8 alone, and fennhop_read_deck 6, 3, 2, 15, 16,
+ * 17 and 8 alone, in the order told at each.
  *
  *    1  a names line different, or the text empty                                    line; 1 if empty
  *    2  a value line malformed, or a wrong count of values                           line
@@ -130,14 +131,15 @@
  *   15  reading a deck: a wrong word, or a wrong card number                         line
  *   16  reading a deck: a number that is no whole count of tenths                    line
  *   17  reading a deck: not as many depths as distances                              distances given
+ *   18  a wind of 0 with an angle other than 0                                       point
  *
  * FENNHOP_WRONG_BUFFER: `state`, `answer`, or what a text is read into, is not as long as it has to be; no check was made and nothing
  * was written, the answer neither.
  *
  * A count that is no multiple of the numbers of a point, or of a row of the list, counts as none at all: 5, place 0, for `points`, 8,
  * place 0, for `storm`, 13, place 0, for `sites` and `winds`. Room may have any count from what is written on. An elapsed time in
- * `state` that is itself past its limits is 9, place 0. Within a segment 10 comes before 11 and 11 before 12, and all three before the
- * next segment.
+ * `state` that is itself past its limits is 9, place 0. All points are judged by 9 before the first is judged by 18. Within a segment
+ * 10 comes before 11 and 11 before 12, and all three before the next segment.
  *
  * A refused call writes nothing but its answer: state, rows and setup stay exactly as they were, so the caller may mend the record and
  * call again. A refused reading leaves head, points, cursor, values and storm exactly as they were, and a record that is not made
@@ -164,8 +166,8 @@ extern "C" {
 #endif
 
 /* The version of this header and its library; the number is 10,000 * major + 100 * minor + patch. */
-#define FENNHOP_VERSION "1.2.0"
-#define FENNHOP_VERSION_NUMBER 10200
+#define FENNHOP_VERSION "2.0.0"
+#define FENNHOP_VERSION_NUMBER 20000
 
 /* The most points of a traverse, and the most segments between them. */
 #define FENNHOP_MOST_POINTS 65
@@ -208,6 +210,7 @@ extern "C" {
 #define FENNHOP_REFUSED_CARD_ORDER 15     /* a wrong word or card number of a deck */
 #define FENNHOP_REFUSED_CARD_UNIT 16      /* a number of a deck that is no whole count of tenths */
 #define FENNHOP_REFUSED_CARD_COUNTS 17    /* not as many depths of a deck as distances */
+#define FENNHOP_REFUSED_CALM_ANGLE 18     /* a wind of 0 with an angle other than 0 */
 
 /* Returned where an array that has one length is lent with another. */
 #define FENNHOP_WRONG_BUFFER 255
@@ -223,8 +226,8 @@ uint64_t fennhop_open_traverse(int64_t latitude, int64_t friction, int64_t initi
                                int64_t *state, size_t state_count,
                                int64_t *answer, size_t answer_count);
 
-/* Takes a record: checks 5 to 12, those of the traverse again. Accepted: state, rows and setup are those after the record and
- * answer has the height. Refused: they are left as they were. */
+/* Takes a record: checks 5 to 9, 18 and 10 to 12, those of the traverse again. Accepted: state, rows and setup are those after the
+ * record and answer has the height. Refused: they are left as they were. */
 uint64_t fennhop_take_record(int64_t latitude, int64_t friction, int64_t initial,
                              const int64_t *points, size_t points_count,
                              int64_t seconds, int64_t tide,

@@ -7,8 +7,8 @@ module surge
   implicit none
 
   ! The version of the header and its library; the number is 10,000 * major + 100 * minor + patch.
-  character(*), parameter :: fennhop_version = '1.2.0'
-  integer, parameter :: fennhop_version_number = 10200
+  character(*), parameter :: fennhop_version = '2.0.0'
+  integer, parameter :: fennhop_version_number = 20000
 
   ! The most points of a traverse, and the most segments between them.
   integer(c_size_t), parameter :: fennhop_most_points = 65
@@ -51,6 +51,7 @@ module surge
   integer(c_int64_t), parameter :: fennhop_refused_card_order = 15     ! a wrong word or card number of a deck
   integer(c_int64_t), parameter :: fennhop_refused_card_unit = 16      ! a number of a deck that is no whole count of tenths
   integer(c_int64_t), parameter :: fennhop_refused_card_counts = 17    ! not as many depths of a deck as distances
+  integer(c_int64_t), parameter :: fennhop_refused_calm_angle = 18     ! a wind of 0 with an angle other than 0
 
   ! Returned where an array that has one length is lent with another.
   integer(c_int64_t), parameter :: fennhop_wrong_buffer = 255

@@ -1,4 +1,4 @@
-# Refusals 5, 6, 7 and 9: counts and values past document 01's limits. Read by tools/explain; the limits themselves by tools/deck too.
+# Refusals 5, 6, 7, 9 and 18: counts and values past their limits. Read by tools/explain; the limits themselves by tools/deck too.
 
 # The limits and units of README.md's table, and what usually brings a value past them.
 limits_of() { # VALUE
@@ -115,4 +115,28 @@ explain_elapsed() {
     show_line "elapsed $((elapsed + values[0])) s" "${from[0]}:${upto[0]}"
     say "limits: elapsed time from 0 to 1000000000 s"
     causes "a storm that does not end; records of another storm behind it"
+}
+
+explain_calm() { # POINT
+    if ((points == 0)); then
+        say "in storm.txt, record $record, point $1"
+        say_elapsed
+        no_line traverse.txt
+    else
+        place_in storm.txt "$(line_of storm.txt "$record" "$1")"
+        say_elapsed
+        load_line "$folder/storm.txt" "$(line_of storm.txt "$record" "$1")"
+        if ! readable "$folder/storm.txt"; then no_line storm.txt
+        elif ! show_calm; then changed
+        fi
+    fi
+    say "limits: a wind of 0 carries angle 0"
+    causes "the chart's old angle left beside a wind of 0; the error is usually in the wind, which was left out or not read: give it its value, or angle 0 where it is a calm"
+}
+
+# The wind and the angle of the line that was loaded; status 1 where it is no calm with a direction.
+show_calm() {
+    scan_values 5 || return 1
+    ((values[2] == 0 && values[3] != 0)) || return 1
+    show_line "wind 0, angle ${values[3]}" "${from[2]}:${upto[2]}" "${from[3]}:${upto[3]}"
 }
