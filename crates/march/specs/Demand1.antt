@@ -31,13 +31,16 @@ pub record Marches (g : Given) : Type 0 where
   pub legs : List Leg
   pub is : marchGiven g ≡ done legs
 
--- `leftAccepted` has the ranges of the march, `leftRefused` the refusal, and all that was lent as it was
 pub record AcceptedWhen (g : Given) : Type 0 where
+  -- what is given is within the limits, or there is a first check that fails
   pub either : AllPass (checks g) ⊎ FirstFails (checks g)
+  -- within the limits and marched to its end: `leftAccepted` has the march's ranges
   pub accepts : AllPass (checks g) → (m : Marches g) → takeOf g ≡ leftAccepted g m.legs
+  -- and nothing else is accepted
   pub passes : isAccepted (takeOf g).answer ≡ true → AllPass (checks g) × Marches g
+  -- every other gets the first refusal: `leftRefused` has its number and place, and all that was lent as it was
   pub refuses : (f : FirstFails (checks g)) → takeOf g ≡ leftRefused g f.refusal
-  -- 10, 11 and 12 are the march's own, of a record that is within the limits
+  -- 10, 11 and 12 are the march's own, of what is within the limits
   pub stops : (refusal : Refusal) → AllPass (checks g) → marchGiven g ≡ stopped refusal → takeOf g ≡ leftRefused g refusal
 
 abbrev pub AcceptedExactly : Type 0

@@ -37,7 +37,7 @@ unfoldable pub AllPass : List Check → Type 0
 AllPass [] = Unit {0}
 AllPass (c ∷ l) = (c ≡ Pass) × AllPass l
 
--- the first that fails, which all before it let pass
+-- one of a list fails, and all before it pass
 pub record FirstFails (l : List Check) : Type 0 where
   pub refusal : Refusal
   pub before : List Check

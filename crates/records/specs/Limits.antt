@@ -1,4 +1,4 @@
--- The limits of document 01's table of quantities, once and by name, and what meets them. Both ends belong to a limit.
+-- The limits of document 01's table of quantities and, of a calm, of document 02, once and by name, and what meets them. Both ends belong to a limit.
 use Rattle.std.specs.Prelude.{Bool, ◌&&◌, ◌||◌, not, cond, ℕ, leb, ℤ, pos, negsuc}
 use Rattle.std.specs.Int.Signed.{lt_z, le_z}
 use Rattle.ranges.specs.declared.Range.{Range}
