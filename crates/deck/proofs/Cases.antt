@@ -6,49 +6,49 @@ use mathlib.Core.List.{[], ◌∷◌}
 use lib.IntN.{pos}
 use Rattle.records.specs.declared.Head.{Head}
 use Rattle.records.specs.declared.Kind.TheVariants as kind
-use Rattle.records.specs.Limits.{headOk, inside}
+use Rattle.records.specs.Limits.{head_ok, inside}
 use Rattle.records.specs.Refusals.{refusal}
-use Rattle.listing.specs.Decimal.{decimalOf, digitsOf, signedText}
-use Rattle.listing.specs.Lines.{valuesLine}
+use Rattle.listing.specs.Decimal.{decimal_of, digits_of, signed_text}
+use Rattle.listing.specs.Lines.{values_line}
 use Rattle.listing.specs.Put.{written}
-use Rattle.reader.specs.Text.{more, digitAt, digits, worth}
+use Rattle.reader.specs.Text.{more, digit_at, digits, worth}
 use Rattle.reader.specs.Lines.{spells}
 use Rattle.deck.specs.declared.Converted.TheVariants.{Text, Refused}
-use Rattle.deck.specs.Number.{countAt, worthAt, countGood, pointAt, partFrom, partCount, partWorth, goodAt, pastAt, tenthsAt, wholeAt, numberAt, cursor}
-use Rattle.deck.specs.Cards.{inWord, wordEnd, wordAt, numbersAt, headGood, cardWith, cardAt, followsBy, follows, cards, refused, cardsBy, deckOf}
-use Rattle.deck.specs.Deck.{pointLine, pointLines, headLines, traverseText, leftDeck, putText, convertOf}
+use Rattle.deck.specs.Number.{count_at, worth_at, count_good, point_at, part_from, part_count, part_worth, good_at, past_at, tenths_at, whole_at, number_at, cursor}
+use Rattle.deck.specs.Cards.{in_word, word_end, word_at, numbers_at, head_good, card_with, card_at, follows_by, follows, cards, refused, cards_by, deck_of}
+use Rattle.deck.specs.Deck.{point_line, point_lines, head_lines, traverse_text, left_deck, put_text, convert_of}
 
 -- a number at the front of a text: the place past it, whether it is one, its tenths, whether they are whole
 pub record NumberCases : Type 0 where
   -- `12.5 `
-  fraction : numberAt (49 ∷ 50 ∷ 46 ∷ 53 ∷ 32 ∷ []) 0 ≡ record { past = cursor 4; good = true; tenths = 125; whole = true }
+  fraction : number_at (49 ∷ 50 ∷ 46 ∷ 53 ∷ 32 ∷ []) 0 ≡ record { past = cursor 4; good = true; tenths = 125; whole = true }
   -- `.5\n`
-  point-first : numberAt (46 ∷ 53 ∷ 10 ∷ []) 0 ≡ record { past = cursor 2; good = true; tenths = 5; whole = true }
+  point-first : number_at (46 ∷ 53 ∷ 10 ∷ []) 0 ≡ record { past = cursor 2; good = true; tenths = 5; whole = true }
   -- `5. `
-  point-last : numberAt (53 ∷ 46 ∷ 32 ∷ []) 0 ≡ record { past = cursor 2; good = true; tenths = 50; whole = true }
+  point-last : number_at (53 ∷ 46 ∷ 32 ∷ []) 0 ≡ record { past = cursor 2; good = true; tenths = 50; whole = true }
   -- `00012.50\n`
-  noughts-around : numberAt (48 ∷ 48 ∷ 48 ∷ 49 ∷ 50 ∷ 46 ∷ 53 ∷ 48 ∷ 10 ∷ []) 0 ≡ record { past = cursor 8; good = true; tenths = 125; whole = true }
+  noughts-around : number_at (48 ∷ 48 ∷ 48 ∷ 49 ∷ 50 ∷ 46 ∷ 53 ∷ 48 ∷ 10 ∷ []) 0 ≡ record { past = cursor 8; good = true; tenths = 125; whole = true }
   -- `20.10 `
-  nought-behind : numberAt (50 ∷ 48 ∷ 46 ∷ 49 ∷ 48 ∷ 32 ∷ []) 0 ≡ record { past = cursor 5; good = true; tenths = 201; whole = true }
+  nought-behind : number_at (50 ∷ 48 ∷ 46 ∷ 49 ∷ 48 ∷ 32 ∷ []) 0 ≡ record { past = cursor 5; good = true; tenths = 201; whole = true }
   -- `.05 `
-  hundredths : numberAt (46 ∷ 48 ∷ 53 ∷ 32 ∷ []) 0 ≡ record { past = cursor 3; good = true; tenths = 0; whole = false }
+  hundredths : number_at (46 ∷ 48 ∷ 53 ∷ 32 ∷ []) 0 ≡ record { past = cursor 3; good = true; tenths = 0; whole = false }
   -- `1.23 `
-  tenths-and-hundredths : numberAt (49 ∷ 46 ∷ 50 ∷ 51 ∷ 32 ∷ []) 0 ≡ record { past = cursor 4; good = true; tenths = 12; whole = false }
+  tenths-and-hundredths : number_at (49 ∷ 46 ∷ 50 ∷ 51 ∷ 32 ∷ []) 0 ≡ record { past = cursor 4; good = true; tenths = 12; whole = false }
   -- `. `
-  point-alone : numberAt (46 ∷ 32 ∷ []) 0 ≡ record { past = cursor 1; good = false; tenths = 0; whole = true }
+  point-alone : number_at (46 ∷ 32 ∷ []) 0 ≡ record { past = cursor 1; good = false; tenths = 0; whole = true }
   -- `99999999\n`
-  eight-digits : numberAt (57 ∷ 57 ∷ 57 ∷ 57 ∷ 57 ∷ 57 ∷ 57 ∷ 57 ∷ 10 ∷ []) 0 ≡ record { past = cursor 8; good = true; tenths = 999999990; whole = true }
+  eight-digits : number_at (57 ∷ 57 ∷ 57 ∷ 57 ∷ 57 ∷ 57 ∷ 57 ∷ 57 ∷ 10 ∷ []) 0 ≡ record { past = cursor 8; good = true; tenths = 999999990; whole = true }
   -- `1234567.8\n`
-  eight-with-point : numberAt (49 ∷ 50 ∷ 51 ∷ 52 ∷ 53 ∷ 54 ∷ 55 ∷ 46 ∷ 56 ∷ 10 ∷ []) 0 ≡ record { past = cursor 9; good = true; tenths = 12345678; whole = true }
+  eight-with-point : number_at (49 ∷ 50 ∷ 51 ∷ 52 ∷ 53 ∷ 54 ∷ 55 ∷ 46 ∷ 56 ∷ 10 ∷ []) 0 ≡ record { past = cursor 9; good = true; tenths = 12345678; whole = true }
   -- `123456789 `
-  nine-digits : numberAt (49 ∷ 50 ∷ 51 ∷ 52 ∷ 53 ∷ 54 ∷ 55 ∷ 56 ∷ 57 ∷ 32 ∷ []) 0 ≡ record { past = cursor 9; good = false; tenths = 1234567890; whole = true }
+  nine-digits : number_at (49 ∷ 50 ∷ 51 ∷ 52 ∷ 53 ∷ 54 ∷ 55 ∷ 56 ∷ 57 ∷ 32 ∷ []) 0 ≡ record { past = cursor 9; good = false; tenths = 1234567890; whole = true }
   -- `12345678.9 `
-  nine-with-point : numberAt (49 ∷ 50 ∷ 51 ∷ 52 ∷ 53 ∷ 54 ∷ 55 ∷ 56 ∷ 46 ∷ 57 ∷ 32 ∷ []) 0 ≡ record { past = cursor 10; good = false; tenths = 123456789; whole = true }
+  nine-with-point : number_at (49 ∷ 50 ∷ 51 ∷ 52 ∷ 53 ∷ 54 ∷ 55 ∷ 56 ∷ 46 ∷ 57 ∷ 32 ∷ []) 0 ≡ record { past = cursor 10; good = false; tenths = 123456789; whole = true }
   -- `0 `
-  nought : numberAt (48 ∷ 32 ∷ []) 0 ≡ record { past = cursor 1; good = true; tenths = 0; whole = true }
+  nought : number_at (48 ∷ 32 ∷ []) 0 ≡ record { past = cursor 1; good = true; tenths = 0; whole = true }
 
 pub number-cases : NumberCases
-unfolding numberAt goodAt pastAt tenthsAt wholeAt partCount partWorth partFrom pointAt countGood countAt worthAt digits worth digitAt
+unfolding number_at good_at past_at tenths_at whole_at part_count part_worth part_from point_at count_good count_at worth_at digits worth digit_at
 number-cases = record {
   fraction = refl;
   point-first = refl;
@@ -68,58 +68,58 @@ number-cases = record {
 -- whole decks: the distances and the depths, or the refusal
 pub record DeckCases : Type 0 where
   -- `DIST 1 1 .0\nDEPTH 1 50 50\n`
-  two-cards : deckOf (68 ∷ 73 ∷ 83 ∷ 84 ∷ 32 ∷ 49 ∷ 32 ∷ 49 ∷ 32 ∷ 46 ∷ 48 ∷ 10 ∷ 68 ∷ 69 ∷ 80 ∷ 84 ∷ 72 ∷ 32 ∷ 49 ∷ 32 ∷ 53 ∷ 48 ∷ 32 ∷ 53 ∷ 48 ∷ 10 ∷ []) ≡ cards (10 ∷ 0 ∷ []) (500 ∷ 500 ∷ [])
+  two-cards : deck_of (68 ∷ 73 ∷ 83 ∷ 84 ∷ 32 ∷ 49 ∷ 32 ∷ 49 ∷ 32 ∷ 46 ∷ 48 ∷ 10 ∷ 68 ∷ 69 ∷ 80 ∷ 84 ∷ 72 ∷ 32 ∷ 49 ∷ 32 ∷ 53 ∷ 48 ∷ 32 ∷ 53 ∷ 48 ∷ 10 ∷ []) ≡ cards (10 ∷ 0 ∷ []) (500 ∷ 500 ∷ [])
   -- `DIST 1 47.6 46.6 43.6 40.6 39.6 38.6\nDEPTH 1 600. 580. 456. 446. 410. 420.\n`
-  hampton-beach : deckOf (68 ∷ 73 ∷ 83 ∷ 84 ∷ 32 ∷ 49 ∷ 32 ∷ 52 ∷ 55 ∷ 46 ∷ 54 ∷ 32 ∷ 52 ∷ 54 ∷ 46 ∷ 54 ∷ 32 ∷ 52 ∷ 51 ∷ 46 ∷ 54 ∷ 32 ∷ 52 ∷ 48 ∷ 46 ∷ 54 ∷ 32 ∷ 51 ∷ 57 ∷ 46 ∷ 54 ∷ 32 ∷ 51 ∷ 56 ∷ 46 ∷ 54 ∷ 10 ∷ 68 ∷ 69 ∷ 80 ∷ 84 ∷ 72 ∷ 32 ∷ 49 ∷ 32 ∷ 54 ∷ 48 ∷ 48 ∷ 46 ∷ 32 ∷ 53 ∷ 56 ∷ 48 ∷ 46 ∷ 32 ∷ 52 ∷ 53 ∷ 54 ∷ 46 ∷ 32 ∷ 52 ∷ 52 ∷ 54 ∷ 46 ∷ 32 ∷ 52 ∷ 49 ∷ 48 ∷ 46 ∷ 32 ∷ 52 ∷ 50 ∷ 48 ∷ 46 ∷ 10 ∷ []) ≡ cards (476 ∷ 466 ∷ 436 ∷ 406 ∷ 396 ∷ 386 ∷ []) (6000 ∷ 5800 ∷ 4560 ∷ 4460 ∷ 4100 ∷ 4200 ∷ [])
+  hampton-beach : deck_of (68 ∷ 73 ∷ 83 ∷ 84 ∷ 32 ∷ 49 ∷ 32 ∷ 52 ∷ 55 ∷ 46 ∷ 54 ∷ 32 ∷ 52 ∷ 54 ∷ 46 ∷ 54 ∷ 32 ∷ 52 ∷ 51 ∷ 46 ∷ 54 ∷ 32 ∷ 52 ∷ 48 ∷ 46 ∷ 54 ∷ 32 ∷ 51 ∷ 57 ∷ 46 ∷ 54 ∷ 32 ∷ 51 ∷ 56 ∷ 46 ∷ 54 ∷ 10 ∷ 68 ∷ 69 ∷ 80 ∷ 84 ∷ 72 ∷ 32 ∷ 49 ∷ 32 ∷ 54 ∷ 48 ∷ 48 ∷ 46 ∷ 32 ∷ 53 ∷ 56 ∷ 48 ∷ 46 ∷ 32 ∷ 52 ∷ 53 ∷ 54 ∷ 46 ∷ 32 ∷ 52 ∷ 52 ∷ 54 ∷ 46 ∷ 32 ∷ 52 ∷ 49 ∷ 48 ∷ 46 ∷ 32 ∷ 52 ∷ 50 ∷ 48 ∷ 46 ∷ 10 ∷ []) ≡ cards (476 ∷ 466 ∷ 436 ∷ 406 ∷ 396 ∷ 386 ∷ []) (6000 ∷ 5800 ∷ 4560 ∷ 4460 ∷ 4100 ∷ 4200 ∷ [])
   -- `DIST 1 2 1\nDIST 2 0\nDEPTH 00000001 3\nDEPTH 2 4 5\n`
-  cards-not-in-step : deckOf (68 ∷ 73 ∷ 83 ∷ 84 ∷ 32 ∷ 49 ∷ 32 ∷ 50 ∷ 32 ∷ 49 ∷ 10 ∷ 68 ∷ 73 ∷ 83 ∷ 84 ∷ 32 ∷ 50 ∷ 32 ∷ 48 ∷ 10 ∷ 68 ∷ 69 ∷ 80 ∷ 84 ∷ 72 ∷ 32 ∷ 48 ∷ 48 ∷ 48 ∷ 48 ∷ 48 ∷ 48 ∷ 48 ∷ 49 ∷ 32 ∷ 51 ∷ 10 ∷ 68 ∷ 69 ∷ 80 ∷ 84 ∷ 72 ∷ 32 ∷ 50 ∷ 32 ∷ 52 ∷ 32 ∷ 53 ∷ 10 ∷ []) ≡ cards (20 ∷ 10 ∷ 0 ∷ []) (30 ∷ 40 ∷ 50 ∷ [])
+  cards-not-in-step : deck_of (68 ∷ 73 ∷ 83 ∷ 84 ∷ 32 ∷ 49 ∷ 32 ∷ 50 ∷ 32 ∷ 49 ∷ 10 ∷ 68 ∷ 73 ∷ 83 ∷ 84 ∷ 32 ∷ 50 ∷ 32 ∷ 48 ∷ 10 ∷ 68 ∷ 69 ∷ 80 ∷ 84 ∷ 72 ∷ 32 ∷ 48 ∷ 48 ∷ 48 ∷ 48 ∷ 48 ∷ 48 ∷ 48 ∷ 49 ∷ 32 ∷ 51 ∷ 10 ∷ 68 ∷ 69 ∷ 80 ∷ 84 ∷ 72 ∷ 32 ∷ 50 ∷ 32 ∷ 52 ∷ 32 ∷ 53 ∷ 10 ∷ []) ≡ cards (20 ∷ 10 ∷ 0 ∷ []) (30 ∷ 40 ∷ 50 ∷ [])
   -- ``
-  no-byte : deckOf ([]) ≡ refused (refusal kind.Ended 0)
+  no-byte : deck_of ([]) ≡ refused (refusal kind.Ended 0)
   -- `\n`
-  line-feed-alone : deckOf (10 ∷ []) ≡ refused (refusal kind.Malformed 1)
+  line-feed-alone : deck_of (10 ∷ []) ≡ refused (refusal kind.Malformed 1)
   -- `DIST 1 1`
-  no-line-feed : deckOf (68 ∷ 73 ∷ 83 ∷ 84 ∷ 32 ∷ 49 ∷ 32 ∷ 49 ∷ []) ≡ refused (refusal kind.Malformed 1)
+  no-line-feed : deck_of (68 ∷ 73 ∷ 83 ∷ 84 ∷ 32 ∷ 49 ∷ 32 ∷ 49 ∷ []) ≡ refused (refusal kind.Malformed 1)
   -- `DIST 1 1 \n`
-  space-at-end : deckOf (68 ∷ 73 ∷ 83 ∷ 84 ∷ 32 ∷ 49 ∷ 32 ∷ 49 ∷ 32 ∷ 10 ∷ []) ≡ refused (refusal kind.Malformed 1)
+  space-at-end : deck_of (68 ∷ 73 ∷ 83 ∷ 84 ∷ 32 ∷ 49 ∷ 32 ∷ 49 ∷ 32 ∷ 10 ∷ []) ≡ refused (refusal kind.Malformed 1)
   -- `DIST  1 1\n`
-  two-spaces : deckOf (68 ∷ 73 ∷ 83 ∷ 84 ∷ 32 ∷ 32 ∷ 49 ∷ 32 ∷ 49 ∷ 10 ∷ []) ≡ refused (refusal kind.Malformed 1)
+  two-spaces : deck_of (68 ∷ 73 ∷ 83 ∷ 84 ∷ 32 ∷ 32 ∷ 49 ∷ 32 ∷ 49 ∷ 10 ∷ []) ≡ refused (refusal kind.Malformed 1)
   -- `DIST 1\n`
-  no-number : deckOf (68 ∷ 73 ∷ 83 ∷ 84 ∷ 32 ∷ 49 ∷ 10 ∷ []) ≡ refused (refusal kind.Malformed 1)
+  no-number : deck_of (68 ∷ 73 ∷ 83 ∷ 84 ∷ 32 ∷ 49 ∷ 10 ∷ []) ≡ refused (refusal kind.Malformed 1)
   -- `DIST 1 1 1 1 1 1 1 1\n`
-  seven-numbers : deckOf (68 ∷ 73 ∷ 83 ∷ 84 ∷ 32 ∷ 49 ∷ 32 ∷ 49 ∷ 32 ∷ 49 ∷ 32 ∷ 49 ∷ 32 ∷ 49 ∷ 32 ∷ 49 ∷ 32 ∷ 49 ∷ 32 ∷ 49 ∷ 10 ∷ []) ≡ refused (refusal kind.Malformed 1)
+  seven-numbers : deck_of (68 ∷ 73 ∷ 83 ∷ 84 ∷ 32 ∷ 49 ∷ 32 ∷ 49 ∷ 32 ∷ 49 ∷ 32 ∷ 49 ∷ 32 ∷ 49 ∷ 32 ∷ 49 ∷ 32 ∷ 49 ∷ 32 ∷ 49 ∷ 10 ∷ []) ≡ refused (refusal kind.Malformed 1)
   -- ` 1 1\n`
-  no-word : deckOf (32 ∷ 49 ∷ 32 ∷ 49 ∷ 10 ∷ []) ≡ refused (refusal kind.Malformed 1)
+  no-word : deck_of (32 ∷ 49 ∷ 32 ∷ 49 ∷ 10 ∷ []) ≡ refused (refusal kind.Malformed 1)
   -- `DIST 1 1\r\n`
-  carriage-return : deckOf (68 ∷ 73 ∷ 83 ∷ 84 ∷ 32 ∷ 49 ∷ 32 ∷ 49 ∷ 13 ∷ 10 ∷ []) ≡ refused (refusal kind.Malformed 1)
+  carriage-return : deck_of (68 ∷ 73 ∷ 83 ∷ 84 ∷ 32 ∷ 49 ∷ 32 ∷ 49 ∷ 13 ∷ 10 ∷ []) ≡ refused (refusal kind.Malformed 1)
   -- `DIST 1 -1\n`
-  minus : deckOf (68 ∷ 73 ∷ 83 ∷ 84 ∷ 32 ∷ 49 ∷ 32 ∷ 45 ∷ 49 ∷ 10 ∷ []) ≡ refused (refusal kind.Malformed 1)
+  minus : deck_of (68 ∷ 73 ∷ 83 ∷ 84 ∷ 32 ∷ 49 ∷ 32 ∷ 45 ∷ 49 ∷ 10 ∷ []) ≡ refused (refusal kind.Malformed 1)
   -- `DIST 000000001 1\n`
-  long-card-number : deckOf (68 ∷ 73 ∷ 83 ∷ 84 ∷ 32 ∷ 48 ∷ 48 ∷ 48 ∷ 48 ∷ 48 ∷ 48 ∷ 48 ∷ 48 ∷ 49 ∷ 32 ∷ 49 ∷ 10 ∷ []) ≡ refused (refusal kind.Malformed 1)
+  long-card-number : deck_of (68 ∷ 73 ∷ 83 ∷ 84 ∷ 32 ∷ 48 ∷ 48 ∷ 48 ∷ 48 ∷ 48 ∷ 48 ∷ 48 ∷ 48 ∷ 49 ∷ 32 ∷ 49 ∷ 10 ∷ []) ≡ refused (refusal kind.Malformed 1)
   -- `DI\tT 1 1\n`
-  tab-in-word : deckOf (68 ∷ 73 ∷ 9 ∷ 84 ∷ 32 ∷ 49 ∷ 32 ∷ 49 ∷ 10 ∷ []) ≡ refused (refusal kind.CardOrder 1)
+  tab-in-word : deck_of (68 ∷ 73 ∷ 9 ∷ 84 ∷ 32 ∷ 49 ∷ 32 ∷ 49 ∷ 10 ∷ []) ≡ refused (refusal kind.CardOrder 1)
   -- `dist 1 1\n`
-  small-letters : deckOf (100 ∷ 105 ∷ 115 ∷ 116 ∷ 32 ∷ 49 ∷ 32 ∷ 49 ∷ 10 ∷ []) ≡ refused (refusal kind.CardOrder 1)
+  small-letters : deck_of (100 ∷ 105 ∷ 115 ∷ 116 ∷ 32 ∷ 49 ∷ 32 ∷ 49 ∷ 10 ∷ []) ≡ refused (refusal kind.CardOrder 1)
   -- `DIST 0 1\n`
-  card-nought : deckOf (68 ∷ 73 ∷ 83 ∷ 84 ∷ 32 ∷ 48 ∷ 32 ∷ 49 ∷ 10 ∷ []) ≡ refused (refusal kind.CardOrder 1)
+  card-nought : deck_of (68 ∷ 73 ∷ 83 ∷ 84 ∷ 32 ∷ 48 ∷ 32 ∷ 49 ∷ 10 ∷ []) ≡ refused (refusal kind.CardOrder 1)
   -- `DIST 2 1\n`
-  card-two-first : deckOf (68 ∷ 73 ∷ 83 ∷ 84 ∷ 32 ∷ 50 ∷ 32 ∷ 49 ∷ 10 ∷ []) ≡ refused (refusal kind.CardOrder 1)
+  card-two-first : deck_of (68 ∷ 73 ∷ 83 ∷ 84 ∷ 32 ∷ 50 ∷ 32 ∷ 49 ∷ 10 ∷ []) ≡ refused (refusal kind.CardOrder 1)
   -- `DIST 1 1\nDEPTH 2 1\n`
-  number-not-reset : deckOf (68 ∷ 73 ∷ 83 ∷ 84 ∷ 32 ∷ 49 ∷ 32 ∷ 49 ∷ 10 ∷ 68 ∷ 69 ∷ 80 ∷ 84 ∷ 72 ∷ 32 ∷ 50 ∷ 32 ∷ 49 ∷ 10 ∷ []) ≡ refused (refusal kind.CardOrder 2)
+  number-not-reset : deck_of (68 ∷ 73 ∷ 83 ∷ 84 ∷ 32 ∷ 49 ∷ 32 ∷ 49 ∷ 10 ∷ 68 ∷ 69 ∷ 80 ∷ 84 ∷ 72 ∷ 32 ∷ 50 ∷ 32 ∷ 49 ∷ 10 ∷ []) ≡ refused (refusal kind.CardOrder 2)
   -- `DIST 1 1\nDEPTH 1 1\nDIST 2 1\n`
-  dist-behind-depth : deckOf (68 ∷ 73 ∷ 83 ∷ 84 ∷ 32 ∷ 49 ∷ 32 ∷ 49 ∷ 10 ∷ 68 ∷ 69 ∷ 80 ∷ 84 ∷ 72 ∷ 32 ∷ 49 ∷ 32 ∷ 49 ∷ 10 ∷ 68 ∷ 73 ∷ 83 ∷ 84 ∷ 32 ∷ 50 ∷ 32 ∷ 49 ∷ 10 ∷ []) ≡ refused (refusal kind.CardOrder 3)
+  dist-behind-depth : deck_of (68 ∷ 73 ∷ 83 ∷ 84 ∷ 32 ∷ 49 ∷ 32 ∷ 49 ∷ 10 ∷ 68 ∷ 69 ∷ 80 ∷ 84 ∷ 72 ∷ 32 ∷ 49 ∷ 32 ∷ 49 ∷ 10 ∷ 68 ∷ 73 ∷ 83 ∷ 84 ∷ 32 ∷ 50 ∷ 32 ∷ 49 ∷ 10 ∷ []) ≡ refused (refusal kind.CardOrder 3)
   -- `DIST 1 1\nDIST 2 1 .05\n`
-  hundredths : deckOf (68 ∷ 73 ∷ 83 ∷ 84 ∷ 32 ∷ 49 ∷ 32 ∷ 49 ∷ 10 ∷ 68 ∷ 73 ∷ 83 ∷ 84 ∷ 32 ∷ 50 ∷ 32 ∷ 49 ∷ 32 ∷ 46 ∷ 48 ∷ 53 ∷ 10 ∷ []) ≡ refused (refusal kind.CardUnit 2)
+  hundredths : deck_of (68 ∷ 73 ∷ 83 ∷ 84 ∷ 32 ∷ 49 ∷ 32 ∷ 49 ∷ 10 ∷ 68 ∷ 73 ∷ 83 ∷ 84 ∷ 32 ∷ 50 ∷ 32 ∷ 49 ∷ 32 ∷ 46 ∷ 48 ∷ 53 ∷ 10 ∷ []) ≡ refused (refusal kind.CardUnit 2)
   -- `DIST 2 1 \n`
-  shape-before-order : deckOf (68 ∷ 73 ∷ 83 ∷ 84 ∷ 32 ∷ 50 ∷ 32 ∷ 49 ∷ 32 ∷ 10 ∷ []) ≡ refused (refusal kind.Malformed 1)
+  shape-before-order : deck_of (68 ∷ 73 ∷ 83 ∷ 84 ∷ 32 ∷ 50 ∷ 32 ∷ 49 ∷ 32 ∷ 10 ∷ []) ≡ refused (refusal kind.Malformed 1)
   -- `DIST 2 .05\n`
-  order-before-unit : deckOf (68 ∷ 73 ∷ 83 ∷ 84 ∷ 32 ∷ 50 ∷ 32 ∷ 46 ∷ 48 ∷ 53 ∷ 10 ∷ []) ≡ refused (refusal kind.CardOrder 1)
+  order-before-unit : deck_of (68 ∷ 73 ∷ 83 ∷ 84 ∷ 32 ∷ 50 ∷ 32 ∷ 46 ∷ 48 ∷ 53 ∷ 10 ∷ []) ≡ refused (refusal kind.CardOrder 1)
   -- `DIST 1 .05\nDIST 1 1 \n`
-  earliest-line : deckOf (68 ∷ 73 ∷ 83 ∷ 84 ∷ 32 ∷ 49 ∷ 32 ∷ 46 ∷ 48 ∷ 53 ∷ 10 ∷ 68 ∷ 73 ∷ 83 ∷ 84 ∷ 32 ∷ 49 ∷ 32 ∷ 49 ∷ 32 ∷ 10 ∷ []) ≡ refused (refusal kind.CardUnit 1)
+  earliest-line : deck_of (68 ∷ 73 ∷ 83 ∷ 84 ∷ 32 ∷ 49 ∷ 32 ∷ 46 ∷ 48 ∷ 53 ∷ 10 ∷ 68 ∷ 73 ∷ 83 ∷ 84 ∷ 32 ∷ 49 ∷ 32 ∷ 49 ∷ 32 ∷ 10 ∷ []) ≡ refused (refusal kind.CardUnit 1)
   -- `DEPTH 1 5\n`
-  no-dist : deckOf (68 ∷ 69 ∷ 80 ∷ 84 ∷ 72 ∷ 32 ∷ 49 ∷ 32 ∷ 53 ∷ 10 ∷ []) ≡ cards ([]) (50 ∷ [])
+  no-dist : deck_of (68 ∷ 69 ∷ 80 ∷ 84 ∷ 72 ∷ 32 ∷ 49 ∷ 32 ∷ 53 ∷ 10 ∷ []) ≡ cards ([]) (50 ∷ [])
 
 pub deck-cases : DeckCases
-unfolding deckOf cardsBy cardAt cardWith headGood numbersAt wordAt wordEnd inWord followsBy follows spells more goodAt pastAt tenthsAt wholeAt partCount partWorth partFrom pointAt countGood countAt worthAt digits worth digitAt
+unfolding deck_of cards_by card_at card_with head_good numbers_at word_at word_end in_word follows_by follows spells more good_at past_at tenths_at whole_at part_count part_worth part_from point_at count_good count_at worth_at digits worth digit_at
 deck-cases = record {
   two-cards = refl;
   hampton-beach = refl;
@@ -155,16 +155,16 @@ given = record { latitude = pos 300; friction = pos 25; initial = pos 0 }
 -- the call
 pub record CallCases : Type 0 where
   -- document 01's listing, with room for one byte more
-  whole : convertOf given (68 ∷ 73 ∷ 83 ∷ 84 ∷ 32 ∷ 49 ∷ 32 ∷ 49 ∷ 32 ∷ 46 ∷ 48 ∷ 10 ∷ 68 ∷ 69 ∷ 80 ∷ 84 ∷ 72 ∷ 32 ∷ 49 ∷ 32 ∷ 53 ∷ 48 ∷ 32 ∷ 53 ∷ 48 ∷ 10 ∷ []) (7 ∷ 7 ∷ 7 ∷ 7 ∷ 7 ∷ 7 ∷ 7 ∷ 7 ∷ 7 ∷ 7 ∷ 7 ∷ 7 ∷ 7 ∷ 7 ∷ 7 ∷ 7 ∷ 7 ∷ 7 ∷ 7 ∷ 7 ∷ 7 ∷ 7 ∷ 7 ∷ 7 ∷ 7 ∷ 7 ∷ 7 ∷ 7 ∷ 7 ∷ 7 ∷ 7 ∷ 7 ∷ 7 ∷ 7 ∷ 7 ∷ 7 ∷ 7 ∷ 7 ∷ 7 ∷ 7 ∷ 7 ∷ 7 ∷ 7 ∷ 7 ∷ 7 ∷ 7 ∷ 7 ∷ 7 ∷ 7 ∷ 7 ∷ 7 ∷ 7 ∷ 7 ∷ 7 ∷ 7 ∷ 7 ∷ 7 ∷ 7 ∷ 7 ∷ 7 ∷ 7 ∷ 7 ∷ 7 ∷ 7 ∷ []) ≡ leftDeck (Text 63) (108 ∷ 97 ∷ 116 ∷ 105 ∷ 116 ∷ 117 ∷ 100 ∷ 101 ∷ 32 ∷ 102 ∷ 114 ∷ 105 ∷ 99 ∷ 116 ∷ 105 ∷ 111 ∷ 110 ∷ 32 ∷ 105 ∷ 110 ∷ 105 ∷ 116 ∷ 105 ∷ 97 ∷ 108 ∷ 10 ∷ 51 ∷ 48 ∷ 48 ∷ 32 ∷ 50 ∷ 53 ∷ 32 ∷ 48 ∷ 10 ∷ 100 ∷ 105 ∷ 115 ∷ 116 ∷ 97 ∷ 110 ∷ 99 ∷ 101 ∷ 32 ∷ 100 ∷ 101 ∷ 112 ∷ 116 ∷ 104 ∷ 10 ∷ 49 ∷ 48 ∷ 32 ∷ 53 ∷ 48 ∷ 48 ∷ 10 ∷ 48 ∷ 32 ∷ 53 ∷ 48 ∷ 48 ∷ 10 ∷ 7 ∷ [])
+  whole : convert_of given (68 ∷ 73 ∷ 83 ∷ 84 ∷ 32 ∷ 49 ∷ 32 ∷ 49 ∷ 32 ∷ 46 ∷ 48 ∷ 10 ∷ 68 ∷ 69 ∷ 80 ∷ 84 ∷ 72 ∷ 32 ∷ 49 ∷ 32 ∷ 53 ∷ 48 ∷ 32 ∷ 53 ∷ 48 ∷ 10 ∷ []) (7 ∷ 7 ∷ 7 ∷ 7 ∷ 7 ∷ 7 ∷ 7 ∷ 7 ∷ 7 ∷ 7 ∷ 7 ∷ 7 ∷ 7 ∷ 7 ∷ 7 ∷ 7 ∷ 7 ∷ 7 ∷ 7 ∷ 7 ∷ 7 ∷ 7 ∷ 7 ∷ 7 ∷ 7 ∷ 7 ∷ 7 ∷ 7 ∷ 7 ∷ 7 ∷ 7 ∷ 7 ∷ 7 ∷ 7 ∷ 7 ∷ 7 ∷ 7 ∷ 7 ∷ 7 ∷ 7 ∷ 7 ∷ 7 ∷ 7 ∷ 7 ∷ 7 ∷ 7 ∷ 7 ∷ 7 ∷ 7 ∷ 7 ∷ 7 ∷ 7 ∷ 7 ∷ 7 ∷ 7 ∷ 7 ∷ 7 ∷ 7 ∷ 7 ∷ 7 ∷ 7 ∷ 7 ∷ 7 ∷ 7 ∷ []) ≡ left_deck (Text 63) (108 ∷ 97 ∷ 116 ∷ 105 ∷ 116 ∷ 117 ∷ 100 ∷ 101 ∷ 32 ∷ 102 ∷ 114 ∷ 105 ∷ 99 ∷ 116 ∷ 105 ∷ 111 ∷ 110 ∷ 32 ∷ 105 ∷ 110 ∷ 105 ∷ 116 ∷ 105 ∷ 97 ∷ 108 ∷ 10 ∷ 51 ∷ 48 ∷ 48 ∷ 32 ∷ 50 ∷ 53 ∷ 32 ∷ 48 ∷ 10 ∷ 100 ∷ 105 ∷ 115 ∷ 116 ∷ 97 ∷ 110 ∷ 99 ∷ 101 ∷ 32 ∷ 100 ∷ 101 ∷ 112 ∷ 116 ∷ 104 ∷ 10 ∷ 49 ∷ 48 ∷ 32 ∷ 53 ∷ 48 ∷ 48 ∷ 10 ∷ 48 ∷ 32 ∷ 53 ∷ 48 ∷ 48 ∷ 10 ∷ 7 ∷ [])
   -- with room for one byte less
-  short : convertOf given (68 ∷ 73 ∷ 83 ∷ 84 ∷ 32 ∷ 49 ∷ 32 ∷ 49 ∷ 32 ∷ 46 ∷ 48 ∷ 10 ∷ 68 ∷ 69 ∷ 80 ∷ 84 ∷ 72 ∷ 32 ∷ 49 ∷ 32 ∷ 53 ∷ 48 ∷ 32 ∷ 53 ∷ 48 ∷ 10 ∷ []) (7 ∷ 7 ∷ 7 ∷ 7 ∷ 7 ∷ 7 ∷ 7 ∷ 7 ∷ 7 ∷ 7 ∷ 7 ∷ 7 ∷ 7 ∷ 7 ∷ 7 ∷ 7 ∷ 7 ∷ 7 ∷ 7 ∷ 7 ∷ 7 ∷ 7 ∷ 7 ∷ 7 ∷ 7 ∷ 7 ∷ 7 ∷ 7 ∷ 7 ∷ 7 ∷ 7 ∷ 7 ∷ 7 ∷ 7 ∷ 7 ∷ 7 ∷ 7 ∷ 7 ∷ 7 ∷ 7 ∷ 7 ∷ 7 ∷ 7 ∷ 7 ∷ 7 ∷ 7 ∷ 7 ∷ 7 ∷ 7 ∷ 7 ∷ 7 ∷ 7 ∷ 7 ∷ 7 ∷ 7 ∷ 7 ∷ 7 ∷ 7 ∷ 7 ∷ 7 ∷ 7 ∷ 7 ∷ []) ≡ leftDeck (Refused (refusal kind.Lent 0)) (7 ∷ 7 ∷ 7 ∷ 7 ∷ 7 ∷ 7 ∷ 7 ∷ 7 ∷ 7 ∷ 7 ∷ 7 ∷ 7 ∷ 7 ∷ 7 ∷ 7 ∷ 7 ∷ 7 ∷ 7 ∷ 7 ∷ 7 ∷ 7 ∷ 7 ∷ 7 ∷ 7 ∷ 7 ∷ 7 ∷ 7 ∷ 7 ∷ 7 ∷ 7 ∷ 7 ∷ 7 ∷ 7 ∷ 7 ∷ 7 ∷ 7 ∷ 7 ∷ 7 ∷ 7 ∷ 7 ∷ 7 ∷ 7 ∷ 7 ∷ 7 ∷ 7 ∷ 7 ∷ 7 ∷ 7 ∷ 7 ∷ 7 ∷ 7 ∷ 7 ∷ 7 ∷ 7 ∷ 7 ∷ 7 ∷ 7 ∷ 7 ∷ 7 ∷ 7 ∷ 7 ∷ 7 ∷ [])
+  short : convert_of given (68 ∷ 73 ∷ 83 ∷ 84 ∷ 32 ∷ 49 ∷ 32 ∷ 49 ∷ 32 ∷ 46 ∷ 48 ∷ 10 ∷ 68 ∷ 69 ∷ 80 ∷ 84 ∷ 72 ∷ 32 ∷ 49 ∷ 32 ∷ 53 ∷ 48 ∷ 32 ∷ 53 ∷ 48 ∷ 10 ∷ []) (7 ∷ 7 ∷ 7 ∷ 7 ∷ 7 ∷ 7 ∷ 7 ∷ 7 ∷ 7 ∷ 7 ∷ 7 ∷ 7 ∷ 7 ∷ 7 ∷ 7 ∷ 7 ∷ 7 ∷ 7 ∷ 7 ∷ 7 ∷ 7 ∷ 7 ∷ 7 ∷ 7 ∷ 7 ∷ 7 ∷ 7 ∷ 7 ∷ 7 ∷ 7 ∷ 7 ∷ 7 ∷ 7 ∷ 7 ∷ 7 ∷ 7 ∷ 7 ∷ 7 ∷ 7 ∷ 7 ∷ 7 ∷ 7 ∷ 7 ∷ 7 ∷ 7 ∷ 7 ∷ 7 ∷ 7 ∷ 7 ∷ 7 ∷ 7 ∷ 7 ∷ 7 ∷ 7 ∷ 7 ∷ 7 ∷ 7 ∷ 7 ∷ 7 ∷ 7 ∷ 7 ∷ 7 ∷ []) ≡ left_deck (Refused (refusal kind.Lent 0)) (7 ∷ 7 ∷ 7 ∷ 7 ∷ 7 ∷ 7 ∷ 7 ∷ 7 ∷ 7 ∷ 7 ∷ 7 ∷ 7 ∷ 7 ∷ 7 ∷ 7 ∷ 7 ∷ 7 ∷ 7 ∷ 7 ∷ 7 ∷ 7 ∷ 7 ∷ 7 ∷ 7 ∷ 7 ∷ 7 ∷ 7 ∷ 7 ∷ 7 ∷ 7 ∷ 7 ∷ 7 ∷ 7 ∷ 7 ∷ 7 ∷ 7 ∷ 7 ∷ 7 ∷ 7 ∷ 7 ∷ 7 ∷ 7 ∷ 7 ∷ 7 ∷ 7 ∷ 7 ∷ 7 ∷ 7 ∷ 7 ∷ 7 ∷ 7 ∷ 7 ∷ 7 ∷ 7 ∷ 7 ∷ 7 ∷ 7 ∷ 7 ∷ 7 ∷ 7 ∷ 7 ∷ 7 ∷ [])
   -- one depth and no distance: the count of distances, and before the room
-  unequal : convertOf given (68 ∷ 69 ∷ 80 ∷ 84 ∷ 72 ∷ 32 ∷ 49 ∷ 32 ∷ 53 ∷ 10 ∷ []) [] ≡ leftDeck (Refused (refusal kind.CardCounts 0)) []
+  unequal : convert_of given (68 ∷ 69 ∷ 80 ∷ 84 ∷ 72 ∷ 32 ∷ 49 ∷ 32 ∷ 53 ∷ 10 ∷ []) [] ≡ left_deck (Refused (refusal kind.CardCounts 0)) []
   -- the given values before a deck of no bytes
-  values-first : convertOf (record { latitude = pos 901; friction = pos 25; initial = pos 0 }) [] [] ≡ leftDeck (Refused (refusal kind.TraverseValue 0)) []
+  values-first : convert_of (record { latitude = pos 901; friction = pos 25; initial = pos 0 }) [] [] ≡ left_deck (Refused (refusal kind.TraverseValue 0)) []
 
 pub call-cases : CallCases
-unfolding convertOf putText traverseText headLines pointLines pointLine written valuesLine signedText decimalOf digitsOf headOk inside deckOf cardsBy cardAt cardWith headGood numbersAt wordAt wordEnd inWord followsBy follows spells more goodAt pastAt tenthsAt wholeAt partCount partWorth partFrom pointAt countGood countAt worthAt digits worth digitAt
+unfolding convert_of put_text traverse_text head_lines point_lines point_line written values_line signed_text decimal_of digits_of head_ok inside deck_of cards_by card_at card_with head_good numbers_at word_at word_end in_word follows_by follows spells more good_at past_at tenths_at whole_at part_count part_worth part_from point_at count_good count_at worth_at digits worth digit_at
 call-cases = record {
   whole = refl;
   short = refl;

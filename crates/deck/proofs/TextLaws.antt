@@ -13,39 +13,39 @@ use borrow.Author.Tests.{lt-ltb, le-ltb, le-leb, lt-leb}
 use Rattle.records.specs.declared.Head.{Head}
 use Rattle.records.specs.declared.Kind.TheVariants.{Lent}
 use Rattle.records.specs.Refusals.{refusal}
-use Rattle.listing.specs.Decimal.{decimalOf}
-use Rattle.listing.specs.Lines.{space, feed, valuesLine}
+use Rattle.listing.specs.Decimal.{decimal_of}
+use Rattle.listing.specs.Lines.{space, feed, values_line}
 use Rattle.listing.specs.Put.{written, Wrote}
 use Rattle.listing.proofs.Lines.{record-most}
 use Rattle.listing.proofs.Written.{written_none, written_on, wrote_on}
 use Rattle.reader.specs.Text.{byte}
-use Rattle.reader.specs.Traverse.{headNames, pointNames}
+use Rattle.reader.specs.Traverse.{head_names, point_names}
 use Rattle.reader.proofs.Laws.{fits-leb, short-leb}
 use Rattle.deck.specs.declared.walk.Step.{Step}
 use Rattle.deck.specs.declared.CardCursor.{CardCursor}
 use Rattle.deck.specs.declared.Converted.{Converted}
 use Rattle.deck.specs.declared.Converted.TheVariants.{Text, Refused}
 use Rattle.deck.specs.Number.{cursor}
-use Rattle.deck.specs.Deck.{pointLine, headLines, leftDeck, putText}
-use Rattle.deck.specs.Walk.{pastSpaces, firstAt, stepAt, walked, linesFrom}
+use Rattle.deck.specs.Deck.{point_line, head_lines, left_deck, put_text}
+use Rattle.deck.specs.Walk.{past_spaces, first_at, step_at, walked, lines_from}
 
 -- ---- past the spaces of a card's front
 
-pub spaces-none : (s : List ℕ) (n k at : ℕ) → k ≡ 0 → pastSpaces s n k at ≡ at
-unfolding pastSpaces
+pub spaces-none : (s : List ℕ) (n k at : ℕ) → k ≡ 0 → past_spaces s n k at ≡ at
+unfolding past_spaces
 spaces-none s zero k at e = refl
 spaces-none s (suc n) k at e = rw e
 
-pub spaces-ended : (s : List ℕ) (n k at : ℕ) → length s ≤ at → pastSpaces s n k at ≡ at
-unfolding pastSpaces
+pub spaces-ended : (s : List ℕ) (n k at : ℕ) → length s ≤ at → past_spaces s n k at ≡ at
+unfolding past_spaces
 spaces-ended s zero k at h = refl
 spaces-ended s (suc n) zero at h = refl
 spaces-ended s (suc n) (suc k) at h = rw (le-ltb _ _ h)
 
 -- past one byte more, which is a space or not
 pub spaces-more : (s : List ℕ) (n m k i j at to : ℕ) → n ≡ suc m → k ≡ suc i → at < length s → j ≡ cond (eqb (byte s at) 32) i k → to ≡ at + 1
-    → pastSpaces s m j to ≡ pastSpaces s n k at
-unfolding pastSpaces
+    → past_spaces s m j to ≡ past_spaces s n k at
+unfolding past_spaces
 spaces-more s n m k i j at to e f h q t = rw (q, t, e, f, lt-ltb _ _ h)
 
 -- ---- past numbers
@@ -54,115 +54,115 @@ pub walked-none : (s : List ℕ) (n at : ℕ) → n ≡ 0 → walked s n at ≡ 
 unfolding walked
 walked-none s n at e = rw e
 
-pub walked-more : (s : List ℕ) (n m at : ℕ) (x : Step) → n ≡ suc m → x ≡ stepAt s at → walked s m x.next.at ≡ walked s n at
-unfolding stepAt walked
+pub walked-more : (s : List ℕ) (n m at : ℕ) (x : Step) → n ≡ suc m → x ≡ step_at s at → walked s m x.next.at ≡ walked s n at
+unfolding step_at walked
 walked-more s n m at x e q = rw (e, q)
 
 -- ---- the lines before the points
 
 -- the line of the given values, as the code reads them back from their bits
-abbrev pub bitsLine : Head → List ℕ
-bitsLine h = valuesLine (to_z w64 (of_z w64 h.latitude)) (to_z w64 (of_z w64 h.friction)) (to_z w64 (of_z w64 h.initial))
+abbrev pub bits_line : Head → List ℕ
+bits_line h = values_line (to_z w64 (of_z w64 h.latitude)) (to_z w64 (of_z w64 h.friction)) (to_z w64 (of_z w64 h.initial))
 
 -- they fit 64 bits, so that this is their line; it is short
 module _ (h : Head) (l : SFits w64 h.latitude) (f : SFits w64 h.friction) (i : SFits w64 h.initial) where
-  bits-line : bitsLine h ≡ valuesLine h.latitude h.friction h.initial
+  bits-line : bits_line h ≡ values_line h.latitude h.friction h.initial
   bits-line = rw (to_z-of_z l, to_z-of_z f, to_z-of_z i)
 
-  pub bits-short : length (bitsLine h) ≤ 63
+  pub bits-short : length (bits_line h) ≤ 63
   bits-short = rw bits-line (record-most _ _ _ l f i)
 
-  pub head-length : length (headLines h) ≡ 26 + length (bitsLine h) + 15
-  unfolding headLines
+  pub head-length : length (head_lines h) ≡ 26 + length (bits_line h) + 15
+  unfolding head_lines
   head-length = rw bits-line (simp length-append (omega arith))
 
-  pub head-parts : headNames ++ bitsLine h ++ pointNames ≡ headLines h
-  unfolding headLines
+  pub head-parts : head_names ++ bits_line h ++ point_names ≡ head_lines h
+  unfolding head_lines
   head-parts = rw bits-line
 
 -- ---- the lines of the points
 
-point-parts : (d h : ℕ) → (decimalOf d ++ space) ++ (decimalOf h ++ feed) ≡ pointLine d h
-unfolding pointLine
+point-parts : (d h : ℕ) → (decimal_of d ++ space) ++ (decimal_of h ++ feed) ≡ point_line d h
+unfolding point_line
 point-parts d h = simp append_assoc
 
-point-length : (d h : ℕ) → length (pointLine d h) ≡ length (decimalOf d) + length (decimalOf h) + 2
-unfolding pointLine
+point-length : (d h : ℕ) → length (point_line d h) ≡ length (decimal_of d) + length (decimal_of h) + 2
+unfolding point_line
 point-length d h = simp length-append (omega arith)
 
-lines-none : (s : List ℕ) (n d h : ℕ) → n ≡ 0 → linesFrom s n d h ≡ []
-unfolding linesFrom
+lines-none : (s : List ℕ) (n d h : ℕ) → n ≡ 0 → lines_from s n d h ≡ []
+unfolding lines_from
 lines-none s n d h e = rw e
 
 -- no line is left: it needs no room, and all is written
-pub fit-none : (s : List ℕ) (n d h spare : ℕ) → n ≡ 0 → true ≡ leb (length (linesFrom s n d h)) spare
+pub fit-none : (s : List ℕ) (n d h spare : ℕ) → n ≡ 0 → true ≡ leb (length (lines_from s n d h)) spare
 fit-none s n d h spare e = rw (lines-none s n d h e) (sym (le-leb 0 spare (omega arith)))
 
 pub write-none : (s : List ℕ) (n d h : ℕ) {bytes : List ℕ} {at next : ℕ} {lent out : List ℕ} → n ≡ 0
-    → next + length (linesFrom s n d h) ≡ at + length bytes → written (linesFrom s n d h) next out ≡ written bytes at lent → Wrote bytes at lent next out
+    → next + length (lines_from s n d h) ≡ at + length bytes → written (lines_from s n d h) next out ≡ written bytes at lent → Wrote bytes at lent next out
 write-none s n d h {next = next} {out = out} e p q =
     let z = lines-none s n d h e in
     let l = ap length z in
     record { place = omega arith; buffer = sym (written_none next out) ∙ (rw z at q) }
 
 -- one line more: the steps at a distance and at a depth
-module _ (s : List ℕ) (n m d h : ℕ) (a b : Step) (e : n ≡ suc m) (p : a ≡ stepAt s d) (q : b ≡ stepAt s h) where
+module _ (s : List ℕ) (n m d h : ℕ) (a b : Step) (e : n ≡ suc m) (p : a ≡ step_at s d) (q : b ≡ step_at s h) where
   abbrev pub behind : List ℕ
-  behind = linesFrom s m a.next.at b.next.at
+  behind = lines_from s m a.next.at b.next.at
 
-  lines-more : pointLine a.tenths b.tenths ++ behind ≡ linesFrom s n d h
-  unfolding linesFrom stepAt
+  lines-more : point_line a.tenths b.tenths ++ behind ≡ lines_from s n d h
+  unfolding lines_from step_at
   lines-more = rw (e, p, q)
 
-  pub lines-length : length (linesFrom s n d h) ≡ length behind + (length (decimalOf a.tenths) + length (decimalOf b.tenths) + 2)
-  lines-length = rw (← lines-more) (omega (arith, length-append (pointLine a.tenths b.tenths) behind, point-length a.tenths b.tenths))
+  pub lines-length : length (lines_from s n d h) ≡ length behind + (length (decimal_of a.tenths) + length (decimal_of b.tenths) + 2)
+  lines-length = rw (← lines-more) (omega (arith, length-append (point_line a.tenths b.tenths) behind, point-length a.tenths b.tenths))
 
   -- the room that it needs
-  module _ (need spare : ℕ) (k : need ≡ length (decimalOf a.tenths) + length (decimalOf b.tenths) + 2) where
-    fit-length : leb (length behind + need) spare ≡ leb (length (linesFrom s n d h)) spare
-    fit-length = let l : length behind + need ≡ length (linesFrom s n d h) = omega (arith, lines-length) in rw l
+  module _ (need spare : ℕ) (k : need ≡ length (decimal_of a.tenths) + length (decimal_of b.tenths) + 2) where
+    fit-length : leb (length behind + need) spare ≡ leb (length (lines_from s n d h)) spare
+    fit-length = let l : length behind + need ≡ length (lines_from s n d h) = omega (arith, lines-length) in rw l
 
-    pub fit-more : need ≤ spare → leb (length behind) (spare - need) ≡ leb (length (linesFrom s n d h)) spare
+    pub fit-more : need ≤ spare → leb (length behind) (spare - need) ≡ leb (length (lines_from s n d h)) spare
     fit-more l = fits-leb _ spare need l ∙ fit-length
 
-    pub fit_short : spare < need → false ≡ leb (length (linesFrom s n d h)) spare
+    pub fit_short : spare < need → false ≡ leb (length (lines_from s n d h)) spare
     fit_short l = short-leb (length behind) spare need l ∙ fit-length
 
   -- its two numbers, written one behind the other
-  module _ {at middle next : ℕ} {t u v : List ℕ} (x : Wrote (decimalOf a.tenths ++ space) at t middle u) (y : Wrote (decimalOf b.tenths ++ feed) middle u next v)
-      (room : at + length (linesFrom s n d h) ≤ length t) where
-    wrote-line : Wrote (pointLine a.tenths b.tenths) at t next v
+  module _ {at middle next : ℕ} {t u v : List ℕ} (x : Wrote (decimal_of a.tenths ++ space) at t middle u) (y : Wrote (decimal_of b.tenths ++ feed) middle u next v)
+      (room : at + length (lines_from s n d h) ≤ length t) where
+    wrote-line : Wrote (point_line a.tenths b.tenths) at t next v
     wrote-line =
         subst (λ (l : List ℕ). Wrote l at t next v) (point-parts a.tenths b.tenths)
         (wrote_on x y (simp length-append (omega (arith, lines-length))))
 
-    pub ends-more : next + length behind ≡ at + length (linesFrom s n d h)
+    pub ends-more : next + length behind ≡ at + length (lines_from s n d h)
     ends-more = omega (arith, lines-length, point-length a.tenths b.tenths, wrote-line.place)
 
-    pub write-more : written behind next v ≡ written (linesFrom s n d h) at t
+    pub write-more : written behind next v ≡ written (lines_from s n d h) at t
     write-more =
         rw (wrote-line.place, wrote-line.buffer, ← lines-more)
-        (written_on (pointLine a.tenths b.tenths) behind at t (omega (arith, lines-length, point-length a.tenths b.tenths)))
+        (written_on (point_line a.tenths b.tenths) behind at t (omega (arith, lines-length, point-length a.tenths b.tenths)))
 
 -- ---- the whole text: the distances begin in the first card, the depths behind the last distance
 
-module _ (s : List ℕ) (n : ℕ) (x y : CardCursor) (p : x ≡ cursor (firstAt s 0)) (q : y ≡ cursor (walked s n x.at)) (head room : List ℕ) where
+module _ (s : List ℕ) (n : ℕ) (x y : CardCursor) (p : x ≡ cursor (first_at s 0)) (q : y ≡ cursor (walked s n x.at)) (head room : List ℕ) where
   abbrev pub whole : List ℕ
-  whole = head ++ linesFrom s n (firstAt s 0) (walked s n (firstAt s 0))
+  whole = head ++ lines_from s n (first_at s 0) (walked s n (first_at s 0))
 
-  whole_is : head ++ linesFrom s n x.at y.at ≡ whole
+  whole_is : head ++ lines_from s n x.at y.at ≡ whole
   whole_is = rw (q, p)
 
-  whole-length : length whole ≡ length head + length (linesFrom s n x.at y.at)
-  whole-length = rw (← whole_is) (length-append head (linesFrom s n x.at y.at))
+  whole-length : length whole ≡ length head + length (lines_from s n x.at y.at)
+  whole-length = rw (← whole_is) (length-append head (lines_from s n x.at y.at))
 
-  pub put-short : {r : Converted} → r ≡ Refused (refusal Lent 0) → length room < length head + length (linesFrom s n x.at y.at) → leftDeck r room ≡ putText whole room
-  unfolding putText
+  pub put-short : {r : Converted} → r ≡ Refused (refusal Lent 0) → length room < length head + length (lines_from s n x.at y.at) → left_deck r room ≡ put_text whole room
+  unfolding put_text
   put-short e h = rw (e, lt-leb (length whole) (length room) (omega (arith, whole-length)))
 
-  pub put_whole : {at next : ℕ} {t u : List ℕ} → Wrote head 0 room at t → Wrote (linesFrom s n x.at y.at) at t next u
-      → length head + length (linesFrom s n x.at y.at) ≤ length room → leftDeck (Text next) u ≡ putText whole room
-  unfolding putText
+  pub put_whole : {at next : ℕ} {t u : List ℕ} → Wrote head 0 room at t → Wrote (lines_from s n x.at y.at) at t next u
+      → length head + length (lines_from s n x.at y.at) ≤ length room → left_deck (Text next) u ≡ put_text whole room
+  unfolding put_text
   put_whole {next = next} {u = u} f g h =
       let w : Wrote whole 0 room next u = subst (λ (l : List ℕ). Wrote l 0 room next u) whole_is (wrote_on f g (omega arith)) in
       let e : next ≡ length whole = omega (arith, w.place) in

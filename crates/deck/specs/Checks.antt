@@ -1,5 +1,5 @@
--- The checks of the cards in the code's terms, which counts numbers where `deckOf` lists them. Inner definitions: proofs/CheckLaws.antt shows that
--- the refusals are those of `deckOf`, and the counts the lengths of its lists. Assumes nothing.
+-- The checks of the cards in the code's terms, which counts numbers where `deck_of` lists them. Inner definitions: proofs/CheckLaws.antt shows that
+-- the refusals are those of `deck_of`, and the counts the lengths of its lists. Assumes nothing.
 use Rattle.std.specs.Prelude.{ℕ, ◌+◌, List, Bool, true, cond, ◌&&◌, length, eqb}
 use Rattle.records.specs.declared.Kind.TheVariants.{Malformed, CardOrder, CardUnit}
 use Rattle.reader.specs.Text.{byte}
@@ -13,8 +13,8 @@ use Rattle.deck.specs.declared.cards.CardStep.{CardStep}
 use Rattle.deck.specs.declared.cards.CardStep.TheVariants as step
 use Rattle.deck.specs.declared.cards.Sound.{Sound}
 use Rattle.deck.specs.declared.cards.Sound.TheVariants as sound
-use Rattle.deck.specs.Number.{countGood, cursor}
-use Rattle.deck.specs.Cards.{Numbers, numbers, misshapen, Card, card, noCard, none, follows, Cards, cards, refused}
+use Rattle.deck.specs.Number.{count_good, cursor}
+use Rattle.deck.specs.Cards.{Numbers, numbers, misshapen, Card, card, no_card, none, follows, Cards, cards, refused}
 
 -- ---- a card
 
@@ -24,32 +24,32 @@ counted n whole (numbers ts ws past) = shape.Read (record { count = n + length t
 counted n whole misshapen = shape.Misshapen
 
 -- whether a run of so many digits, which ends at a place, is a card number with a space behind it
-unfoldable pub cardNumberGood : List ℕ → ℕ → ℕ → Bool
-cardNumberGood s count past = countGood count && eqb (byte s past) 32
+unfoldable pub card_number_good : List ℕ → ℕ → ℕ → Bool
+card_number_good s count past = count_good count && eqb (byte s past) 32
 
 -- ---- the cards so far
 
-abbrev pub noCards : Tally
-noCards = record { last = none; distances = 0; depths = 0 }
+abbrev pub no_cards : Tally
+no_cards = record { last = none; distances = 0; depths = 0 }
 
 -- with a card more
-unfoldable pub withCard : Tally → Word → ℕ → ℕ → Tally
-withCard t Dist n count = record { last = record { word = Dist; number = n }; distances = t.distances + count; depths = t.depths }
-withCard t Depth n count = record { last = record { word = Depth; number = n }; distances = t.distances; depths = t.depths + count }
-withCard t Other n count = record { last = record { word = Other; number = n }; distances = t.distances; depths = t.depths }
+unfoldable pub with_card : Tally → Word → ℕ → ℕ → Tally
+with_card t Dist n count = record { last = record { word = Dist; number = n }; distances = t.distances + count; depths = t.depths }
+with_card t Depth n count = record { last = record { word = Depth; number = n }; distances = t.distances; depths = t.depths + count }
+with_card t Other n count = record { last = record { word = Other; number = n }; distances = t.distances; depths = t.depths }
 
 -- what a card makes of them: 15, then 16; where it has no card's shape, 2
-unfoldable pub placedStep : Tally → Word → ℕ → CardNumbers → CardStep
-placedStep t word n x =
-    cond (follows t.last word n) (cond x.whole (step.Read (withCard t word n x.count) x.past) (step.Refused CardUnit)) (step.Refused CardOrder)
+unfoldable pub placed_step : Tally → Word → ℕ → CardNumbers → CardStep
+placed_step t word n x =
+    cond (follows t.last word n) (cond x.whole (step.Read (with_card t word n x.count) x.past) (step.Refused CardUnit)) (step.Refused CardOrder)
 
-abbrev pub shapeStep : Tally → Word → ℕ → Shape → CardStep
-shapeStep t word n (shape.Read x) = placedStep t word n x
-shapeStep t word n shape.Misshapen = step.Refused Malformed
+abbrev pub shape_step : Tally → Word → ℕ → Shape → CardStep
+shape_step t word n (shape.Read x) = placed_step t word n x
+shape_step t word n shape.Misshapen = step.Refused Malformed
 
-abbrev pub cardStep : Tally → Card → CardStep
-cardStep t (card word n ns) = shapeStep t word n (counted 0 true ns)
-cardStep t noCard = step.Refused Malformed
+abbrev pub card_step : Tally → Card → CardStep
+card_step t (card word n ns) = shape_step t word n (counted 0 true ns)
+card_step t no_card = step.Refused Malformed
 
 -- ---- all cards
 

@@ -3,34 +3,34 @@
 use Rattle.std.specs.Prelude.{ℕ, List, [], ◌∷◌, ◌++◌, cond, length, leb, eqb}
 use Rattle.records.specs.declared.Head.{Head}
 use Rattle.records.specs.declared.Kind.TheVariants.{TraverseValue, Lent, CardCounts}
-use Rattle.records.specs.Limits.{headOk}
+use Rattle.records.specs.Limits.{head_ok}
 use Rattle.records.specs.Refusals.{refusal}
-use Rattle.listing.specs.Decimal.{decimalOf}
-use Rattle.listing.specs.Lines.{space, feed, valuesLine}
+use Rattle.listing.specs.Decimal.{decimal_of}
+use Rattle.listing.specs.Lines.{space, feed, values_line}
 use Rattle.listing.specs.Put.{written}
-use Rattle.reader.specs.Traverse.{headNames, pointNames}
+use Rattle.reader.specs.Traverse.{head_names, point_names}
 use Rattle.deck.specs.declared.Converted.{Converted}
 use Rattle.deck.specs.declared.Converted.TheVariants.{Text, Refused}
-use Rattle.deck.specs.Cards.{Cards, cards, refused, deckOf}
+use Rattle.deck.specs.Cards.{Cards, cards, refused, deck_of}
 
 -- ---- the text of `traverse.txt`
 
 -- a point's line: its distance and its depth
-unfoldable pub pointLine : ℕ → ℕ → List ℕ
-pointLine distance depth = decimalOf distance ++ space ++ decimalOf depth ++ feed
+unfoldable pub point_line : ℕ → ℕ → List ℕ
+point_line distance depth = decimal_of distance ++ space ++ decimal_of depth ++ feed
 
 -- the first distance with the first depth, and so on
-unfoldable pub pointLines : List ℕ → List ℕ → List ℕ
-pointLines (d ∷ ds) (h ∷ hs) = pointLine d h ++ pointLines ds hs
-pointLines (d ∷ ds) [] = []
-pointLines [] hs = []
+unfoldable pub point_lines : List ℕ → List ℕ → List ℕ
+point_lines (d ∷ ds) (h ∷ hs) = point_line d h ++ point_lines ds hs
+point_lines (d ∷ ds) [] = []
+point_lines [] hs = []
 
 -- names, the three given values, names, and the points
-unfoldable pub headLines : Head → List ℕ
-headLines h = headNames ++ valuesLine h.latitude h.friction h.initial ++ pointNames
+unfoldable pub head_lines : Head → List ℕ
+head_lines h = head_names ++ values_line h.latitude h.friction h.initial ++ point_names
 
-unfoldable pub traverseText : Head → List ℕ → List ℕ → List ℕ
-traverseText h distances depths = headLines h ++ pointLines distances depths
+unfoldable pub traverse_text : Head → List ℕ → List ℕ → List ℕ
+traverse_text h distances depths = head_lines h ++ point_lines distances depths
 
 -- ---- the call
 
@@ -39,21 +39,21 @@ pub record LeftDeck : Type 0 where
   pub answer : Converted
   pub text : List ℕ
 
-abbrev pub leftDeck : Converted → List ℕ → LeftDeck
-leftDeck answer text = record { answer = answer; text = text }
+abbrev pub left_deck : Converted → List ℕ → LeftDeck
+left_deck answer text = record { answer = answer; text = text }
 
 -- last of all the room, 8 with place 0: the text goes to its front, and what is behind stays as lent
-unfoldable pub putText : List ℕ → List ℕ → LeftDeck
-putText bytes room = cond (leb (length bytes) (length room)) (leftDeck (Text (length bytes)) (written bytes 0 room)) (leftDeck (Refused (refusal Lent 0)) room)
+unfoldable pub put_text : List ℕ → List ℕ → LeftDeck
+put_text bytes room = cond (leb (length bytes) (length room)) (left_deck (Text (length bytes)) (written bytes 0 room)) (left_deck (Refused (refusal Lent 0)) room)
 
 -- "unequal counts of distances and depths (17) with the count of distances, card by card, the counts last"
-abbrev pub afterCards : Head → Cards → List ℕ → LeftDeck
-afterCards h (refused r) room = leftDeck (Refused r) room
-afterCards h (cards distances depths) room =
+abbrev pub after_cards : Head → Cards → List ℕ → LeftDeck
+after_cards h (refused r) room = left_deck (Refused r) room
+after_cards h (cards distances depths) room =
     cond (eqb (length distances) (length depths))
-    (putText (traverseText h distances depths) room)
-    (leftDeck (Refused (refusal CardCounts (length distances))) room)
+    (put_text (traverse_text h distances depths) room)
+    (left_deck (Refused (refusal CardCounts (length distances))) room)
 
 -- "The given values, past their limits, get 6 with place 0 first of all"
-unfoldable pub convertOf : Head → List ℕ → List ℕ → LeftDeck
-convertOf h s room = cond (headOk h) (afterCards h (deckOf s) room) (leftDeck (Refused (refusal TraverseValue 0)) room)
+unfoldable pub convert_of : Head → List ℕ → List ℕ → LeftDeck
+convert_of h s room = cond (head_ok h) (after_cards h (deck_of s) room) (left_deck (Refused (refusal TraverseValue 0)) room)

@@ -9,53 +9,53 @@ use Rattle.deck.specs.declared.numbers.Number.{Number}
 
 -- ---- a run of digits: how many, and what they are worth
 
-unfoldable pub countAt : List ℕ → ℕ → ℕ
-countAt s at = digits s 9 at
+unfoldable pub count_at : List ℕ → ℕ → ℕ
+count_at s at = digits s 9 at
 
-unfoldable pub worthAt : List ℕ → ℕ → ℕ
-worthAt s at = worth s 0 (countAt s at) at
+unfoldable pub worth_at : List ℕ → ℕ → ℕ
+worth_at s at = worth s 0 (count_at s at) at
 
 -- "one to eight digits"
-unfoldable pub countGood : ℕ → Bool
-countGood n = ltb 0 n && ltb n 9
+unfoldable pub count_good : ℕ → Bool
+count_good n = ltb 0 n && ltb n 9
 
 -- ---- a number
 
 -- whether a point follows the first run, where the second begins, how many digits that has and what they are worth
-unfoldable pub pointAt : List ℕ → ℕ → Bool
-pointAt s at = eqb (byte s (at + countAt s at)) 46
+unfoldable pub point_at : List ℕ → ℕ → Bool
+point_at s at = eqb (byte s (at + count_at s at)) 46
 
-unfoldable pub partFrom : List ℕ → ℕ → ℕ
-partFrom s at = at + countAt s at + 1
+unfoldable pub part_from : List ℕ → ℕ → ℕ
+part_from s at = at + count_at s at + 1
 
-unfoldable pub partCount : List ℕ → ℕ → ℕ
-partCount s at = cond (pointAt s at) (countAt s (partFrom s at)) 0
+unfoldable pub part_count : List ℕ → ℕ → ℕ
+part_count s at = cond (point_at s at) (count_at s (part_from s at)) 0
 
-unfoldable pub partWorth : List ℕ → ℕ → ℕ
-partWorth s at = cond (pointAt s at) (worthAt s (partFrom s at)) 0
+unfoldable pub part_worth : List ℕ → ℕ → ℕ
+part_worth s at = cond (point_at s at) (worth_at s (part_from s at)) 0
 
 -- "the same with at most one point": the point is not counted
-unfoldable pub goodAt : List ℕ → ℕ → Bool
-goodAt s at = countGood (countAt s at + partCount s at)
+unfoldable pub good_at : List ℕ → ℕ → Bool
+good_at s at = count_good (count_at s at + part_count s at)
 
 -- the place past it
-unfoldable pub pastAt : List ℕ → ℕ → ℕ
-pastAt s at = cond (pointAt s at) (partFrom s at + partCount s at) (at + countAt s at)
+unfoldable pub past_at : List ℕ → ℕ → ℕ
+past_at s at = cond (point_at s at) (part_from s at + part_count s at) (at + count_at s at)
 
 -- in our units, tenths of a nautical mile or of a foot, and whether it is a whole count of them
-unfoldable pub tenthsAt : List ℕ → ℕ → ℕ
-tenthsAt s at = 10 * worthAt s at + 10 * partWorth s at / 10 ^ partCount s at
+unfoldable pub tenths_at : List ℕ → ℕ → ℕ
+tenths_at s at = 10 * worth_at s at + 10 * part_worth s at / 10 ^ part_count s at
 
-unfoldable pub wholeAt : List ℕ → ℕ → Bool
-wholeAt s at = eqb (10 * partWorth s at % 10 ^ partCount s at) 0
+unfoldable pub whole_at : List ℕ → ℕ → Bool
+whole_at s at = eqb (10 * part_worth s at % 10 ^ part_count s at) 0
 
 -- ---- the same in the code's terms
 
 abbrev pub cursor : ℕ → CardCursor
 cursor at = record { at = at }
 
-unfoldable pub runAt : List ℕ → ℕ → Run
-runAt s at = record { past = cursor (at + countAt s at); count = countAt s at; worth = worthAt s at; scale = 10 ^ countAt s at }
+unfoldable pub run_at : List ℕ → ℕ → Run
+run_at s at = record { past = cursor (at + count_at s at); count = count_at s at; worth = worth_at s at; scale = 10 ^ count_at s at }
 
-unfoldable pub numberAt : List ℕ → ℕ → Number
-numberAt s at = record { past = cursor (pastAt s at); good = goodAt s at; tenths = tenthsAt s at; whole = wholeAt s at }
+unfoldable pub number_at : List ℕ → ℕ → Number
+number_at s at = record { past = cursor (past_at s at); good = good_at s at; tenths = tenths_at s at; whole = whole_at s at }

@@ -2,14 +2,14 @@
 use Rattle.std.specs.Prelude.{◌≡◌, true, false, ℕ, ◌+◌, ◌^◌, ◌<◌, List, [], ◌∷◌, length, take, ℤ, pos}
 use Rattle.records.specs.declared.Head.{Head}
 use Rattle.records.specs.declared.Kind.TheVariants.{Points}
-use Rattle.records.specs.Limits.{countOk, mostPoints}
+use Rattle.records.specs.Limits.{count_ok, most_points}
 use Rattle.records.specs.Refusals.{refusal}
 use Rattle.records.specs.Shapes.{traverse}
-use Rattle.reader.specs.Lines.{read, refused as notRead}
-use Rattle.reader.specs.Traverse.{traverseOf}
+use Rattle.reader.specs.Lines.{read, refused as not_read}
+use Rattle.reader.specs.Traverse.{traverse_of}
 use Rattle.deck.specs.declared.Converted.TheVariants.{Text}
-use Rattle.deck.specs.Cards.{cards, deckOf}
-use Rattle.deck.specs.Deck.{convertOf}
+use Rattle.deck.specs.Cards.{cards, deck_of}
+use Rattle.deck.specs.Deck.{convert_of}
 
 -- the points, two numbers each: the first distance and the first depth, and so on
 unfoldable pub paired : List ℕ → List ℕ → List ℤ
@@ -21,13 +21,13 @@ paired [] hs = []
 pub record ReadBack (h : Head) (s text : List ℕ) : Type 0 where
   pub distances : List ℕ
   pub depths : List ℕ
-  pub deck : deckOf s ≡ cards distances depths
+  pub deck : deck_of s ≡ cards distances depths
   pub same : length distances ≡ length depths
-  pub points : countOk mostPoints (length distances) ≡ true
-      → traverseOf text ≡ read (traverse h (paired distances depths)) (length text) (3 + length distances)
-  pub count : countOk mostPoints (length distances) ≡ false → traverseOf text ≡ notRead (refusal Points (length distances))
+  pub points : count_ok most_points (length distances) ≡ true
+      → traverse_of text ≡ read (traverse h (paired distances depths)) (length text) (3 + length distances)
+  pub count : count_ok most_points (length distances) ≡ false → traverse_of text ≡ not_read (refusal Points (length distances))
 
 -- of every call that wrote a text: what it wrote, which is the front of what was lent
 abbrev pub DeckIsRead : Type 0
 DeckIsRead =
-    (h : Head) (s room : List ℕ) (n : ℕ) → length s < 2 ^ 64 → (convertOf h s room).answer ≡ Text n → ReadBack h s (take n (convertOf h s room).text)
+    (h : Head) (s room : List ℕ) (n : ℕ) → length s < 2 ^ 64 → (convert_of h s room).answer ≡ Text n → ReadBack h s (take n (convert_of h s room).text)

@@ -2,8 +2,8 @@
 ghost use Rattle.std.specs.Prelude.{◌≡◌, ◌+◌, ◌<◌, ◌≤◌, ◌^◌, true, length};
 ghost use Rattle.records.specs.Refusals.{refusal};
 ghost use Rattle.reader.specs.Text.{byte};
-ghost use Rattle.deck.specs.Cards.{none, wordAt, numbersAt, cardWith, follows as Cards·follows, cardsBy};
-ghost use Rattle.deck.specs.Checks.{counted, noCards, withCard, cardNumberGood, placedStep, cardStep, tallied};
+ghost use Rattle.deck.specs.Cards.{none, word_at, numbers_at, card_with, follows, cards_by};
+ghost use Rattle.deck.specs.Checks.{counted, no_cards, with_card, card_number_good, placed_step, card_step, tallied};
 ghost use Rattle.deck.specs.declared.cards.Sound.TheVariants as sound;
 
 use crate::CardCursor;
@@ -72,7 +72,7 @@ fn refused(kind: Kind, place: usize) -> Sound
 impl Last {
     // Whether a card with this word and number may stand behind this one.
     fn follows(self, word: Word, number: u64) -> bool
-        ensures { result ≡ Cards·follows self word number }
+        ensures { result ≡ follows self word number }
     {
         if number == 0 {
             return false;
@@ -98,7 +98,7 @@ impl Last {
 impl Tally {
     // Before the first card.
     fn none() -> Self
-        ensures { result ≡ noCards }
+        ensures { result ≡ no_cards }
     {
         Tally {
             last: Last {
@@ -113,7 +113,7 @@ impl Tally {
     // With a card more, of so many numbers.
     fn with(self, word: Word, number: u64, count: usize) -> Self
         requires { self.distances + self.depths + count < 2 ^ 64 }
-        ensures { result ≡ withCard self word number count }
+        ensures { result ≡ with_card self word number count }
     {
         let last = Last { word, number };
         match word {
@@ -138,7 +138,7 @@ impl Tally {
     // A card that has its shape: its place among the cards first, then its numbers.
     fn placed(self, word: Word, number: u64, x: CardNumbers) -> CardStep
         requires { self.distances + self.depths + x.count < 2 ^ 64 }
-        ensures { result ≡ placedStep self word number x }
+        ensures { result ≡ placed_step self word number x }
     {
         let last = self.last;
         if !last.follows(word, number) {
@@ -154,7 +154,7 @@ impl Tally {
     fn card(self, s: &[u8], from: CardCursor, end: CardCursor) -> CardStep
         requires space { byte s.now end.at ≡ 32 }
         requires counts { self.distances + self.depths ≤ end.at }
-        ensures { result ≡ cardStep self (cardWith s.now from.at end.at) }
+        ensures { result ≡ card_step self (card_with s.now from.at end.at) }
     {
         if end.at <= from.at {
             return CardStep::Refused(Kind::Malformed);
@@ -173,7 +173,7 @@ impl Tally {
 impl Run {
     // Whether this is a card number, with a space behind it.
     fn card_number(self, s: &[u8]) -> bool
-        ensures { result ≡ cardNumberGood s.now self.count self.past.at }
+        ensures { result ≡ card_number_good s.now self.count self.past.at }
     {
         if !count_good(self.count) {
             return false;
@@ -185,7 +185,7 @@ impl Run {
 impl CardCursor {
     // The word here.
     fn word(self, s: &[u8]) -> Word
-        ensures { result ≡ wordAt s.now self.at }
+        ensures { result ≡ word_at s.now self.at }
     {
         if self.in_text().spells(s, b"DIST ") {
             return Word::Dist;
@@ -198,7 +198,7 @@ impl CardCursor {
 
     // The numbers of a card from here on, six at most.
     fn numbers(self, s: &[u8]) -> Shape
-        ensures { result ≡ counted 0 true (numbersAt s.now 6 self.at) }
+        ensures { result ≡ counted 0 true (numbers_at s.now 6 self.at) }
     {
         let mut c = self;
         let mut count = 0;
@@ -229,7 +229,7 @@ impl CardCursor {
 
 // Checks a deck card by card and counts its numbers. It is left at the first fault, even from inside a word.
 pub fn check_cards(s: &[u8]) -> Sound
-    ensures { result ≡ tallied noCards (cardsBy s.now (length s.now) none 0 0) }
+    ensures { result ≡ tallied no_cards (cards_by s.now (length s.now) none 0 0) }
 {
     let mut c = CardCursor { at: 0 };
     let mut line = 0;

@@ -12,9 +12,9 @@ mod walk;
 
 ghost use Rattle.std.specs.Prelude.{◌≡◌, ◌+◌, ◌<◌, ◌^◌};
 ghost use Rattle.records.specs.Refusals.{refusal};
-ghost use Rattle.reader.specs.Text.{byte, digitAt};
-ghost use Rattle.deck.specs.Deck.{leftDeck, convertOf, afterCards};
-ghost use Rattle.deck.specs.Cards.{deckOf};
+ghost use Rattle.reader.specs.Text.{byte, digit_at};
+ghost use Rattle.deck.specs.Deck.{left_deck, convert_of, after_cards};
+ghost use Rattle.deck.specs.Cards.{deck_of};
 ghost use Rattle.deck.specs.Number.{cursor};
 ghost use Rattle.deck.specs.declared.Converted.TheVariants as converted;
 
@@ -47,7 +47,7 @@ impl CardCursor {
 
     // The digit here, and 10 where there is none.
     fn digit(self, s: &[u8]) -> u64
-        ensures { result ≡ digitAt s.now self.at }
+        ensures { result ≡ digit_at s.now self.at }
     {
         self.in_text().digit(s)
     }
@@ -80,7 +80,7 @@ fn refused(kind: Kind, place: usize) -> Converted
 // Writes the traverse file of a deck to the front of `text`; the given values are latitude, friction and initial level. Refused, and behind what
 // was written, `text` stays as lent.
 pub fn read_deck(head: Head, deck: &[u8], text: &mut [u8]) -> Converted
-    ensures { leftDeck result text.new ≡ convertOf head deck.now text.old }
+    ensures { left_deck result text.new ≡ convert_of head deck.now text.old }
 {
     if !head_ok(head) {
         return refused(Kind::TraverseValue, 0);

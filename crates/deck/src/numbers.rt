@@ -1,6 +1,6 @@
 // The numbers of a card: runs of digits, and a number in tenths, which is one run or two with a point between them.
 ghost use Rattle.std.specs.Prelude.{◌≡◌};
-ghost use Rattle.deck.specs.Number.{countGood, runAt, numberAt};
+ghost use Rattle.deck.specs.Number.{count_good, run_at, number_at};
 
 use crate::CardCursor;
 
@@ -24,7 +24,7 @@ pub struct Number {
 
 // Whether a number may have so many digits.
 pub fn count_good(count: u64) -> bool
-    ensures { result ≡ countGood count }
+    ensures { result ≡ count_good count }
 {
     if count == 0 {
         return false;
@@ -35,7 +35,7 @@ pub fn count_good(count: u64) -> bool
 impl CardCursor {
     // The run of digits here.
     pub fn run(self, s: &[u8]) -> Run
-        ensures { result ≡ runAt s.now self.at }
+        ensures { result ≡ run_at s.now self.at }
     {
         let mut c = self;
         let mut count: u64 = 0;
@@ -62,7 +62,7 @@ impl CardCursor {
 
     // The number here. Behind its point, ten times what the digits are worth over ten for each of them are tenths, whole ones where nothing is left.
     pub fn number(self, s: &[u8]) -> Number
-        ensures { result ≡ numberAt s.now self.at }
+        ensures { result ≡ number_at s.now self.at }
     {
         let front = self.run(s);
         if front.past.byte(s) != b'.' {

@@ -1,8 +1,8 @@
 // The traverse file that is written: two names lines, the given values, and a line a point. The room is measured before a byte is written.
 ghost use Rattle.std.specs.Prelude.{◌≡◌, ◌++◌, ◌+◌, ◌≤◌, length, leb};
 ghost use Rattle.listing.specs.Put.{Wrote};
-ghost use Rattle.deck.specs.Deck.{headLines, leftDeck, putText};
-ghost use Rattle.deck.specs.Walk.{firstAt, walked, linesFrom};
+ghost use Rattle.deck.specs.Deck.{head_lines, left_deck, put_text};
+ghost use Rattle.deck.specs.Walk.{first_at, walked, lines_from};
 
 use crate::{CardCursor, Converted, refused};
 use listing::decimals::{digit_count, values_count, write_bytes, write_decimal, write_values};
@@ -10,14 +10,14 @@ use records::{Head, Kind};
 
 // How many bytes the lines before the points take: two names lines of 26 and 15 bytes, and the values.
 fn head_count(h: Head) -> usize
-    ensures { result ≡ length (headLines h) }
+    ensures { result ≡ length (head_lines h) }
 {
     26 + values_count(h.latitude, h.friction, h.initial) + 15
 }
 
 fn write_head(out: &mut [u8], h: Head) -> usize
-    requires { length (headLines h) ≤ length out.old }
-    ensures { Wrote (headLines h) 0 out.old result out.new }
+    requires { length (head_lines h) ≤ length out.old }
+    ensures { Wrote (head_lines h) 0 out.old result out.new }
 {
     let values = write_bytes(out, 0, b"latitude friction initial\n");
     let names = write_values(out, values, h.latitude, h.friction, h.initial);
@@ -26,7 +26,7 @@ fn write_head(out: &mut [u8], h: Head) -> usize
 
 // Whether the lines of n points have room in so many bytes.
 fn points_fit(s: &[u8], n: usize, distances: CardCursor, depths: CardCursor, room: usize) -> bool
-    ensures { result ≡ leb (length (linesFrom s.now n distances.at depths.at)) room }
+    ensures { result ≡ leb (length (lines_from s.now n distances.at depths.at)) room }
 {
     let mut distance = distances;
     let mut depth = depths;
@@ -56,8 +56,8 @@ fn write_points(
     distances: CardCursor,
     depths: CardCursor,
 ) -> usize
-    requires { at + length (linesFrom s.now n distances.at depths.at) ≤ length out.old }
-    ensures { Wrote (linesFrom s.now n distances.at depths.at) at out.old result out.new }
+    requires { at + length (lines_from s.now n distances.at depths.at) ≤ length out.old }
+    ensures { Wrote (lines_from s.now n distances.at depths.at) at out.old result out.new }
 {
     let mut distance = distances;
     let mut depth = depths;
@@ -77,7 +77,7 @@ fn write_points(
 
 // The whole text of n points, where there is room for it. The depths begin behind the last distance.
 pub fn put_text(h: Head, s: &[u8], n: usize, out: &mut [u8]) -> Converted
-    ensures { leftDeck result out.new ≡ putText (headLines h ++ linesFrom s.now n (firstAt s.now 0) (walked s.now n (firstAt s.now 0))) out.old }
+    ensures { left_deck result out.new ≡ put_text (head_lines h ++ lines_from s.now n (first_at s.now 0) (walked s.now n (first_at s.now 0))) out.old }
 {
     let distances = CardCursor { at: 0 }.first(s);
     let depths = distances.forward(s, n);

@@ -1,7 +1,7 @@
 // The way over a deck that was found sound, from number to number: along a card, and from its line feed to the first number of the next.
 ghost use Rattle.std.specs.Prelude.{◌≡◌};
 ghost use Rattle.deck.specs.Number.{cursor};
-ghost use Rattle.deck.specs.Walk.{firstAt, nextFrom, stepAt, walked};
+ghost use Rattle.deck.specs.Walk.{first_at, next_from, step_at, walked};
 
 use crate::CardCursor;
 
@@ -15,7 +15,7 @@ pub struct Step {
 impl CardCursor {
     // At the first number of the card here: past its word and its card number, each with its space.
     pub fn first(self, s: &[u8]) -> Self
-        ensures { result ≡ cursor (firstAt s.now self.at) }
+        ensures { result ≡ cursor (first_at s.now self.at) }
     {
         let mut c = self;
         let mut spaces: u64 = 2;
@@ -33,7 +33,7 @@ impl CardCursor {
 
     // At the next number, where one ends here.
     fn onward(self, s: &[u8]) -> Self
-        ensures { result ≡ cursor (nextFrom s.now self.at) }
+        ensures { result ≡ cursor (next_from s.now self.at) }
     {
         if self.at >= s.len() {
             return self;
@@ -48,7 +48,7 @@ impl CardCursor {
 
     // The number here, and the next one.
     pub fn step(self, s: &[u8]) -> Step
-        ensures { result ≡ stepAt s.now self.at }
+        ensures { result ≡ step_at s.now self.at }
     {
         let x = self.number(s);
         Step {

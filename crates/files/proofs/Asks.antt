@@ -9,7 +9,7 @@ use lib.Dec.{ltb}
 use lib.ListN.{length}
 use lib.IntN.{ℤ}
 use borrow.Author.Tests.{leb-false}
-use Rattle.records.specs.Limits.{countOk, mostPoints}
+use Rattle.records.specs.Limits.{count_ok, most_points}
 use Rattle.reader.specs.declared.storm.RecordStep.{RecordStep}
 use Rattle.reader.specs.declared.storm.RecordStep.TheVariants as step
 use Rattle.reader.specs.declared.storm.StartStep.{StartStep}
@@ -18,8 +18,8 @@ use Rattle.reader.specs.declared.traverse.Known.{Known}
 use Rattle.reader.specs.declared.traverse.Progress.{Progress}
 use Rattle.reader.specs.declared.traverse.Progress.TheVariants as progress
 use Rattle.reader.specs.Lines.{Outcome, read, refused, Leaves, leaves, holds}
-use Rattle.reader.specs.Storm.{stormStart, nextLeft, startStep, holdsRecord, recordStepLeft, longestRecord}
-use Rattle.reader.specs.Traverse.{Held, lineAt, endOf, endStep, endLeft, onStep, moreStep, stepAt, traverseStep}
+use Rattle.reader.specs.Storm.{storm_start, next_left, start_step, holds_record, record_step_left, longest_record}
+use Rattle.reader.specs.Traverse.{Held, line_at, end_of, end_step, end_left, on_step, more_step, step_at, traverse_step}
 use Rattle.reader.proofs.StormLaws.{counts-in}
 use Rattle.reader.proofs.TraverseLaws.{Past, line_on}
 
@@ -35,29 +35,29 @@ abbrev pub AsksStart : ℕ → StartStep → Type 0
 AsksStart size start-step.More = size < 32
 AsksStart size (start-step.Answer r) = Unit {0}
 
-pub start-asks : (w : List ℕ) (last : Bool) → AsksStart (length w) (startStep w last)
-unfolding startStep
+pub start-asks : (w : List ℕ) (last : Bool) → AsksStart (length w) (start_step w last)
+unfolding start_step
 start-asks w last = go (holds (length w) last 0 32) refl
   where
-    go : (b : Bool) → holds (length w) last 0 32 ≡ b → AsksStart (length w) (cond b (start-step.Answer (stormStart w)) start-step.More)
+    go : (b : Bool) → holds (length w) last 0 32 ≡ b → AsksStart (length w) (cond b (start-step.Answer (storm_start w)) start-step.More)
     go true e = tt
     go false e = (holds_not (length w) last 0 32 e).0
 
 -- at a record, which takes 55 bytes for each of 65 lines at most
 abbrev pub AsksRecord : ℕ → ℕ → RecordStep → Type 0
-AsksRecord size at step.More = size < at + longestRecord
+AsksRecord size at step.More = size < at + longest_record
 AsksRecord size at (step.Answer r) = Unit {0}
 
-pub record-asks : (w : List ℕ) (last : Bool) (n at line : ℕ) (lent : List ℤ) → AsksRecord (length w) at (recordStepLeft w last n at line lent).answer
-unfolding recordStepLeft holdsRecord
-record-asks w last n at line lent = go (countOk mostPoints n) refl (holds (length w) last at (n * 55)) refl
+pub record-asks : (w : List ℕ) (last : Bool) (n at line : ℕ) (lent : List ℤ) → AsksRecord (length w) at (record_step_left w last n at line lent).answer
+unfolding record_step_left holds_record
+record-asks w last n at line lent = go (count_ok most_points n) refl (holds (length w) last at (n * 55)) refl
   where
     stepped : Bool → Leaves RecordStep
-    stepped b = cond b (leaves (step.Answer (nextLeft w n at line lent).answer) (nextLeft w n at line lent).numbers) (leaves step.More lent)
+    stepped b = cond b (leaves (step.Answer (next_left w n at line lent).answer) (next_left w n at line lent).numbers) (leaves step.More lent)
 
-    go : (b : Bool) → countOk mostPoints n ≡ b → (c : Bool) → holds (length w) last at (n * 55) ≡ c → AsksRecord (length w) at (stepped (cond b c true)).answer
+    go : (b : Bool) → count_ok most_points n ≡ b → (c : Bool) → holds (length w) last at (n * 55) ≡ c → AsksRecord (length w) at (stepped (cond b c true)).answer
     go true e true f = tt
-    go true e false f = let k = counts-in mostPoints n e in omega (arith, (holds_not (length w) last at (n * 55) f).0)
+    go true e false f = let k = counts-in most_points n e in omega (arith, (holds_not (length w) last at (n * 55) f).0)
     go false e c f = tt
 
 -- ---- a traverse text, at a line, which takes 33 bytes at most
@@ -67,34 +67,34 @@ Asks size last progress.Read = Unit {0}
 Asks size last (progress.More c) = (size < c.at + 33) × (last ≡ false)
 Asks size last (progress.Refused r) = Unit {0}
 
-asks-end : (size : ℕ) (last : Bool) (o : Outcome Known) → Asks size last (endStep o).answer
-unfolding endStep
+asks-end : (size : ℕ) (last : Bool) (o : Outcome Known) → Asks size last (end_step o).answer
+unfolding end_step
 asks-end size last (read k a l) = tt
 asks-end size last (refused r) = tt
 
 module _ (w : List ℕ) (last : Bool) where
   -- f lines are enough where no more bytes are left
-  step-asks : (f : ℕ) (h : Held) (at line : ℕ) → length w ≤ at + f → Asks (length w) last (stepAt w last f h at line).answer.answer
-  unfolding stepAt
+  step-asks : (f : ℕ) (h : Held) (at line : ℕ) → length w ≤ at + f → Asks (length w) last (step_at w last f h at line).answer.answer
+  unfolding step_at
   step-asks zero h at line g = go last refl
     where
-      go : (b : Bool) → last ≡ b → Asks (length w) last (cond b (endLeft (endOf h at line)) (moreStep h at line)).answer.answer
-      go true e = asks-end (length w) last (endOf h at line).answer
+      go : (b : Bool) → last ≡ b → Asks (length w) last (cond b (end_left (end_of h at line)) (more_step h at line)).answer.answer
+      go true e = asks-end (length w) last (end_of h at line).answer
       go false e = (omega arith, e)
-  step-asks (suc f) h at line g = go (holds (length w) last at 33) refl (ltb at (length w)) (lineAt w h at line) (line_on w h at line) (λ k a l p. step-asks f k a l p)
+  step-asks (suc f) h at line g = go (holds (length w) last at 33) refl (ltb at (length w)) (line_at w h at line) (line_on w h at line) (λ k a l p. step-asks f k a l p)
     where
-      onto : (r : Outcome Held) → Past (at + 1) r → ((k : Held) (a l : ℕ) → length w ≤ a + f → Asks (length w) last (stepAt w last f k a l).answer.answer)
-          → Asks (length w) last (onStep h r (stepAt w last f)).answer.answer
+      onto : (r : Outcome Held) → Past (at + 1) r → ((k : Held) (a l : ℕ) → length w ≤ a + f → Asks (length w) last (step_at w last f k a l).answer.answer)
+          → Asks (length w) last (on_step h r (step_at w last f)).answer.answer
       onto (read k a l) p ih = ih k a l (omega arith)
       onto (refused q) p ih = asks-end (length w) last (refused q)
 
       go : (b : Bool) → holds (length w) last at 33 ≡ b → (c : Bool) (r : Outcome Held) → Past (at + 1) r
-          → ((k : Held) (a l : ℕ) → length w ≤ a + f → Asks (length w) last (stepAt w last f k a l).answer.answer)
-          → Asks (length w) last (cond b (cond c (onStep h r (stepAt w last f)) (endLeft (endOf h at line))) (moreStep h at line)).answer.answer
+          → ((k : Held) (a l : ℕ) → length w ≤ a + f → Asks (length w) last (step_at w last f k a l).answer.answer)
+          → Asks (length w) last (cond b (cond c (on_step h r (step_at w last f)) (end_left (end_of h at line))) (more_step h at line)).answer.answer
       go true e true r p ih = onto r p ih
-      go true e false r p ih = asks-end (length w) last (endOf h at line).answer
+      go true e false r p ih = asks-end (length w) last (end_of h at line).answer
       go false e c r p ih = holds_not (length w) last at 33 e
 
-  pub traverse-asks : (h : Held) (at line : ℕ) → Asks (length w) last (traverseStep w last h at line).answer.answer
-  unfolding traverseStep
+  pub traverse-asks : (h : Held) (at line : ℕ) → Asks (length w) last (traverse_step w last h at line).answer.answer
+  unfolding traverse_step
   traverse-asks h at line = step-asks (length w) h at line (omega arith)

@@ -11,7 +11,7 @@ use lib.Seq.{length-take-le, get_or-take, get_or-drop, drop-append-add}
 use borrow.Author.Tests.{eqb-true, ltb-true, ltb-false}
 use Rattle.reader.specs.Text.{byte}
 use Rattle.reader.specs.Window.{Shows}
-use Rattle.files.specs.Filled.{HeldWindow, readBehind}
+use Rattle.files.specs.Filled.{HeldWindow, read_behind}
 use Rattle.files.specs.TraverseFile.{Continues}
 
 -- the first `have` bytes of the window are those of s from o on, to its end
@@ -36,7 +36,7 @@ behind s l i h =
 
 module _ (s a b : List ℕ) (o at have n : ℕ) (last : Bool) (f : Ending s a o have) (p : at ≤ have) (h : HeldWindow a b at have n last) where
   abbrev pub got : List ℕ
-  got = readBehind (have - at) n b
+  got = read_behind (have - at) n b
 
   got-long : length got ≡ n - (have - at)
   got-long = length-drop (have - at) (take n b) ∙ ap (λ (k : ℕ). k - (have - at)) (length-take-le n b h.within)

@@ -13,7 +13,7 @@ use borrow.Author.Tests.{eqb-true, eqb-false, eq-eqb, ne_eqb}
 use Rattle.reader.specs.Text.{byte}
 use Rattle.files.specs.declared.Got.{Got}
 use Rattle.files.specs.declared.Got.TheVariants.{Bytes, Interrupted, Failed as Unread}
-use Rattle.files.specs.Filled.{InFront, Gives, Refilled, afterRead}
+use Rattle.files.specs.Filled.{InFront, Gives, Refilled, after_read}
 
 -- the first i bytes are those from at on, and the others are as they were
 pub record Shifted (a b : List ℕ) (at i : ℕ) : Type 0 where
@@ -53,7 +53,7 @@ none_read m r n e = go (eqb m 0) refl
     go false f = sym (ne_eqb (r + m) n (λ z. eqb-false m 0 f (omega arith)))
 
 -- what a read of no more than there was room for makes of a window whose front holds what was left
-pub refilled_by : (z : Got) (n : ℕ) → Gives z n → (a b : List ℕ) (at have rest : ℕ) → rest ≡ have - at → rest + n ≤ length b → InFront a b at have → Refilled (afterRead z rest) a b at have
+pub refilled_by : (z : Got) (n : ℕ) → Gives z n → (a b : List ℕ) (at have rest : ℕ) → rest ≡ have - at → rest + n ≤ length b → InFront a b at have → Refilled (after_read z rest) a b at have
 refilled_by (Bytes k) n m a b at have rest e l f = record { within = omega (arith, m); least = omega arith; left = f; ended = none_read k rest (have - at) e }
 refilled_by Interrupted n m a b at have rest e l f = f
 refilled_by Unread n m a b at have rest e l f = f

@@ -6,7 +6,7 @@ use native.Mathlib.Omega.{arith}
 use Prim.Native.Nat.{ℕ}
 use lib.ListN.{length, take}
 use lib.IntN.{ℤ}
-use Rattle.records.specs.Limits.{mostPoints}
+use Rattle.records.specs.Limits.{most_points}
 use Rattle.records.proofs.GroupLaws.{wholes-fit}
 use Rattle.reader.specs.declared.traverse.Progress.{Progress}
 use Rattle.reader.specs.declared.traverse.Progress.TheVariants as progress
@@ -15,24 +15,24 @@ use Rattle.reader.proofs.StormLaws.{counts-in}
 use Rattle.reader.proofs.TraverseLent.{step-has-traverse}
 use Rattle.files.specs.declared.Loaded.TheVariants.{Read}
 use Rattle.files.specs.declared.TraverseFile.{TraverseFile}
-use Rattle.files.specs.TraverseFile.{loadedBy, Reading, stepOf, Loads, HasPoints}
+use Rattle.files.specs.TraverseFile.{loaded_by, Reading, step_of, Loads, HasPoints}
 
 -- of what a step answered and left
-read_has : (x : Reading) → (stepOf x).answer.answer ≡ progress.Read → HasPoints Read (stepOf x).answer.known.count (length (stepOf x).numbers)
-unfolding stepOf
+read_has : (x : Reading) → (step_of x).answer.answer ≡ progress.Read → HasPoints Read (step_of x).answer.known.count (length (step_of x).numbers)
+unfolding step_of
 read_has x e =
-    let s = stepOf x in
+    let s = step_of x in
     let has : HasTraverse s.answer.known.count s.numbers = step-has-traverse (take x.have x.window) x.last x.held 0 x.line e in
-    let n = counts-in mostPoints s.answer.known.count has.counted in
+    let n = counts-in most_points s.answer.known.count has.counted in
     (n.0, omega (arith, has.room, wholes-fit 2 (length s.numbers)), n.1)
 
 -- and so of what the call answers
 pub loads-has : (opened : Bool) (window : List ℕ) (points : List ℤ) (r : TraverseFile) (window' : List ℕ) (points' : List ℤ) → Loads opened window points r window' points' → HasPoints r.answer r.count (length points')
 loads-has opened window points r window' points' l =
     subst (λ (f : TraverseFile). HasPoints f.answer f.count (length points')) (sym l.file)
-    (subst (λ (p : List ℤ). HasPoints (loadedBy (stepOf l.at).answer.answer) (stepOf l.at).answer.known.count (length p)) (sym l.points-left) (go (stepOf l.at).answer.answer refl))
+    (subst (λ (p : List ℤ). HasPoints (loaded_by (step_of l.at).answer.answer) (step_of l.at).answer.known.count (length p)) (sym l.points-left) (go (step_of l.at).answer.answer refl))
   where
-    go : (p : Progress) → (stepOf l.at).answer.answer ≡ p → HasPoints (loadedBy p) (stepOf l.at).answer.known.count (length (stepOf l.at).numbers)
+    go : (p : Progress) → (step_of l.at).answer.answer ≡ p → HasPoints (loaded_by p) (step_of l.at).answer.known.count (length (step_of l.at).numbers)
     go progress.Read e = read_has l.at e
     go (progress.More c) e = tt
     go (progress.Refused q) e = tt

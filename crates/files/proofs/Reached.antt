@@ -14,17 +14,17 @@ use Rattle.reader.specs.declared.traverse.Progress.{Progress}
 use Rattle.reader.specs.declared.traverse.Progress.TheVariants as progress
 use Rattle.reader.specs.declared.traverse.TraverseStep.{TraverseStep}
 use Rattle.reader.specs.Lines.{Leaves, leaves}
-use Rattle.reader.specs.Traverse.{Held, held, restAt, readLeft, traverseLeft, traverseStep}
-use Rattle.reader.specs.Window.{carriedBy, carried}
+use Rattle.reader.specs.Traverse.{Held, held, rest_at, read_left, traverse_left, traverse_step}
+use Rattle.reader.specs.Window.{carried_by, carried}
 use Rattle.reader.proofs.Ends.{Stands, traverse-stands}
 use Rattle.reader.proofs.Steps.{traverse-step-holds}
 use Rattle.files.specs.declared.Filled.TheVariants.{Holds}
 use Rattle.files.specs.declared.Loaded.{Loaded}
 use Rattle.files.specs.declared.Loaded.TheVariants.{Failed}
 use Rattle.files.specs.declared.TraverseFile.{TraverseFile}
-use Rattle.files.specs.Chain.{Chain, mostTurns}
-use Rattle.files.specs.Filled.{Refilled, readBehind}
-use Rattle.files.specs.TraverseFile.{fileOf, loadedBy, fileBy, Reading, begun, stepOf, askedAt, leftFrom, Follows, Reached, textRead, KeptWindow, Loads, Continues, Tells, FileTells}
+use Rattle.files.specs.Chain.{Chain, most_turns}
+use Rattle.files.specs.Filled.{Refilled, read_behind}
+use Rattle.files.specs.TraverseFile.{file_of, loaded_by, file_by, Reading, begun, step_of, asked_at, left_from, Follows, Reached, text_read, KeptWindow, Loads, Continues, Tells, FileTells}
 use Rattle.files.proofs.Walked.{never, Walked, walked_more}
 use Rattle.files.proofs.Asks.{Asks, traverse-asks}
 use Rattle.files.proofs.Ending.{Ending, ending-none, ending-more, ending-shows}
@@ -35,21 +35,21 @@ abbrev pub reading : Known → List ℤ → ℕ → List ℕ → ℕ → Bool �
 reading k points line window have last = record { held = held k points; line = line; window = window; have = have; last = last }
 
 -- a step from x
-module _ (x : Reading) (s : TraverseStep) (out : List ℤ) (e : leaves s out ≡ traverseStep (take x.have x.window) x.last x.held 0 x.line) where
-  step_is : leaves s out ≡ stepOf x
-  unfolding stepOf
+module _ (x : Reading) (s : TraverseStep) (out : List ℤ) (e : leaves s out ≡ traverse_step (take x.have x.window) x.last x.held 0 x.line) where
+  step_is : leaves s out ≡ step_of x
+  unfolding step_of
   step_is = e
 
   -- which asked for more from there
-  pub asked : (c : Cursor) → s.answer ≡ progress.More c → leftFrom x ≡ c.at
-  asked c f = ap askedAt (ap (λ (y : Leaves TraverseStep). y.answer.answer) (sym step_is) ∙ f)
+  pub asked : (c : Cursor) → s.answer ≡ progress.More c → left_from x ≡ c.at
+  asked c f = ap asked_at (ap (λ (y : Leaves TraverseStep). y.answer.answer) (sym step_is) ∙ f)
 
   -- and the refill
   pub walked_on : {a : Reading} (turns : ℕ) → Walked Follows a x turns → (c : Cursor) → s.answer ≡ progress.More c → (window' : List ℕ) (n : ℕ) (last : Bool)
       → Refilled (Holds n last) x.window window' c.at x.have → (turns' : ℕ) → turns ≡ turns' + 1 → Walked Follows a (reading s.known out c.line window' n last) turns'
   walked_on turns w c f window' n last h turns' t =
-      let g : (stepOf x).answer.answer ≡ progress.More c = ap (λ (y : Leaves TraverseStep). y.answer.answer) (sym step_is) ∙ f in
-      let p : leftFrom x ≡ c.at = asked c f in
+      let g : (step_of x).answer.answer ≡ progress.More c = ap (λ (y : Leaves TraverseStep). y.answer.answer) (sym step_is) ∙ f in
+      let p : left_from x ≡ c.at = asked c f in
       walked_more x _ turns turns' w
       (record {
         line = g ∙ ap (λ (k : ℕ). progress.More (record { at = k; line = c.line })) (sym p);
@@ -60,31 +60,31 @@ module _ (x : Reading) (s : TraverseStep) (out : List ℤ) (e : leaves s out ≡
 
 module _ (opened : Bool) (window : List ℕ) (points : List ℤ) (x : Reading) (turns : ℕ) (w : Walked Follows (begun opened window points) x turns) where
   -- a step's answer is the file's
-  pub answered : (s : TraverseStep) (out : List ℤ) → leaves s out ≡ traverseStep (take x.have x.window) x.last x.held 0 x.line → (r : TraverseFile) (window' : List ℕ) (p : Loaded)
-      → r ≡ fileOf p s.known → loadedBy s.answer ≡ p → KeptWindow p x window' → Loads opened window points r window' out
+  pub answered : (s : TraverseStep) (out : List ℤ) → leaves s out ≡ traverse_step (take x.have x.window) x.last x.held 0 x.line → (r : TraverseFile) (window' : List ℕ) (p : Loaded)
+      → r ≡ file_of p s.known → loaded_by s.answer ≡ p → KeptWindow p x window' → Loads opened window points r window' out
   answered s out e r window' p f g k =
       record {
         earlier = w.earlier;
         at = x;
         reached = w.reached;
-        file = f ∙ ap (λ (q : Loaded). fileOf q s.known) (sym g) ∙ ap (λ (y : Leaves TraverseStep). fileBy y.answer) (step_is x s out e);
+        file = f ∙ ap (λ (q : Loaded). file_of q s.known) (sym g) ∙ ap (λ (y : Leaves TraverseStep). file_by y.answer) (step_is x s out e);
         points-left = ap (λ (y : Leaves TraverseStep). y.numbers) (step_is x s out e);
         window-left = subst (λ (q : TraverseFile). KeptWindow q.answer x window') (sym f) k;
       }
 
   -- the turns are spent: the last step asked for more
-  pub walked-out : turns ≡ 0 → (r : TraverseFile) → r ≡ fileOf Failed x.held.known → Loads opened window points r x.window x.held.points
+  pub walked-out : turns ≡ 0 → (r : TraverseFile) → r ≡ file_of Failed x.held.known → Loads opened window points r x.window x.held.points
   unfolding Chain
   walked-out z r f = go w.earlier w.reached w.spent
     where
-      go : (earlier : List Reading) → Reached (begun opened window points) earlier x → turns + length earlier ≡ mostTurns → Loads opened window points r x.window x.held.points
+      go : (earlier : List Reading) → Reached (begun opened window points) earlier x → turns + length earlier ≡ most_turns → Loads opened window points r x.window x.held.points
       go [] q l = absurd (omega arith)
       go (v ∷ earlier) q l =
           record {
             earlier = earlier;
             at = v;
             reached = q.1;
-            file = f ∙ ap (λ (h : Held). fileOf Failed h.known) q.0.known ∙ ap (λ (p : Progress). fileOf (loadedBy p) (stepOf v).answer.known) (sym q.0.line);
+            file = f ∙ ap (λ (h : Held). file_of Failed h.known) q.0.known ∙ ap (λ (p : Progress). file_of (loaded_by p) (step_of v).answer.known) (sym q.0.line);
             points-left = ap (λ (h : Held). h.points) q.0.known;
             window-left = subst (λ (q : TraverseFile). KeptWindow q.answer v x.window) (sym f) q.0.window.left;
           }
@@ -95,73 +95,73 @@ module _ (opened : Bool) (window : List ℕ) (points : List ℤ) (x : Reading) (
 pub record Told (points : List ℤ) (x : Reading) (s : List ℕ) : Type 0 where
   pub from : ℕ
   pub ending : Ending s x.window from x.have
-  pub tells : (e : List ℕ) → Continues x.last e → readLeft (restAt (s ++ e) x.held from x.line) ≡ traverseLeft (s ++ e) points
+  pub tells : (e : List ℕ) → Continues x.last e → read_left (rest_at (s ++ e) x.held from x.line) ≡ traverse_left (s ++ e) points
 
 -- no step asks for more where the text has ended, so whatever was read since goes on from the text before
-not-ended : (x : Reading) (c : Cursor) → (stepOf x).answer.answer ≡ progress.More c → x.last ≡ false
-unfolding stepOf
+not-ended : (x : Reading) (c : Cursor) → (step_of x).answer.answer ≡ progress.More c → x.last ≡ false
+unfolding step_of
 not-ended x c e = (subst (Asks (length (take x.have x.window)) x.last) e (traverse-asks (take x.have x.window) x.last x.held 0 x.line)).1
 
 module _ (points : List ℤ) where
   -- a step from x, on the whole text
-  step-tells : (x : Reading) (s : List ℕ) (h : Told points x s) (e : List ℕ) → Continues x.last e → carried (s ++ e) h.from (stepOf x) ≡ traverseLeft (s ++ e) points
-  unfolding stepOf
+  step-tells : (x : Reading) (s : List ℕ) (h : Told points x s) (e : List ℕ) → Continues x.last e → carried (s ++ e) h.from (step_of x) ≡ traverse_left (s ++ e) points
+  unfolding step_of
   step-tells x s h e c =
       let z : h.from + 0 ≡ h.from = omega arith in
       traverse-step-holds (s ++ e) (take x.have x.window) h.from x.last (ending-shows s x.window h.from x.have x.last h.ending e c) x.held 0 x.line
-      ∙ ap (λ (k : ℕ). readLeft (restAt (s ++ e) x.held k x.line)) z
+      ∙ ap (λ (k : ℕ). read_left (rest_at (s ++ e) x.held k x.line)) z
       ∙ h.tells e c
 
   -- what was left of the window was in it
-  left-held : (x : Reading) → x.have ≤ length x.window → leftFrom x ≤ x.have
-  unfolding stepOf
-  left-held x h = go (stepOf x).answer.answer (traverse-stands (take x.have x.window) x.last (length (take x.have x.window)) (omega arith) x.held 0 x.line (omega arith))
+  left-held : (x : Reading) → x.have ≤ length x.window → left_from x ≤ x.have
+  unfolding step_of
+  left-held x h = go (step_of x).answer.answer (traverse-stands (take x.have x.window) x.last (length (take x.have x.window)) (omega arith) x.held 0 x.line (omega arith))
     where
-      go : (p : Progress) → Stands 0 (length (take x.have x.window)) p → askedAt p ≤ x.have
+      go : (p : Progress) → Stands 0 (length (take x.have x.window)) p → asked_at p ≤ x.have
       go progress.Read q = omega arith
       go (progress.More c) q = omega (arith, q.1, length-take-le x.have x.window h)
       go (progress.Refused r) q = omega arith
 
-  follows-told : (x y : Reading) (s : List ℕ) → Told points x s → Follows x y → Told points y (s ++ readBehind (x.have - leftFrom x) y.have y.window)
+  follows-told : (x y : Reading) (s : List ℕ) → Told points x s → Follows x y → Told points y (s ++ read_behind (x.have - left_from x) y.have y.window)
   follows-told x y s h f =
       record {
-        from = h.from + leftFrom x;
-        ending = ending-more s x.window y.window h.from (leftFrom x) x.have y.have y.last h.ending (left-held x h.ending.held) f.window;
-        tells = λ e c. subst (λ (t : List ℕ). readLeft (restAt t y.held (h.from + leftFrom x) y.line) ≡ traverseLeft t points) (sym (append_assoc s got e)) (on e);
+        from = h.from + left_from x;
+        ending = ending-more s x.window y.window h.from (left_from x) x.have y.have y.last h.ending (left-held x h.ending.held) f.window;
+        tells = λ e c. subst (λ (t : List ℕ). read_left (rest_at t y.held (h.from + left_from x) y.line) ≡ traverse_left t points) (sym (append_assoc s got e)) (on e);
       }
     where
       got : List ℕ
-      got = readBehind (x.have - leftFrom x) y.have y.window
+      got = read_behind (x.have - left_from x) y.have y.window
 
-      on : (e : List ℕ) → readLeft (restAt (s ++ (got ++ e)) y.held (h.from + leftFrom x) y.line) ≡ traverseLeft (s ++ (got ++ e)) points
+      on : (e : List ℕ) → read_left (rest_at (s ++ (got ++ e)) y.held (h.from + left_from x) y.line) ≡ traverse_left (s ++ (got ++ e)) points
       on e =
           let t = s ++ (got ++ e) in
-          let z : (stepOf x).answer.answer ≡ progress.More (record { at = leftFrom x; line = y.line }) = f.line in
-          ap (λ (k : Held). readLeft (restAt t k (h.from + leftFrom x) y.line)) f.known
-          ∙ ap (λ (p : Progress). carriedBy t h.from p (stepOf x).answer.known (stepOf x).numbers) (sym z)
+          let z : (step_of x).answer.answer ≡ progress.More (record { at = left_from x; line = y.line }) = f.line in
+          ap (λ (k : Held). read_left (rest_at t k (h.from + left_from x) y.line)) f.known
+          ∙ ap (λ (p : Progress). carried_by t h.from p (step_of x).answer.known (step_of x).numbers) (sym z)
           ∙ step-tells x s h (got ++ e) (λ l. absurd (never (sym l ∙ not-ended x _ z)))
 
-  pub reached-told : (opened : Bool) (window : List ℕ) (earlier : List Reading) (x : Reading) → Reached (begun opened window points) earlier x → Told points x (textRead earlier x)
-  unfolding Chain textRead traverseLeft
+  pub reached-told : (opened : Bool) (window : List ℕ) (earlier : List Reading) (x : Reading) → Reached (begun opened window points) earlier x → Told points x (text_read earlier x)
+  unfolding Chain text_read traverse_left
   reached-told opened window [] x q =
       subst (λ (y : Reading). Told points y []) (sym q)
       (record { from = 0; ending = ending-none window; tells = λ e c. refl })
-  reached-told opened window (w ∷ earlier) x q = follows-told w x (textRead earlier w) (reached-told opened window earlier w q.1) q.0
+  reached-told opened window (w ∷ earlier) x q = follows-told w x (text_read earlier w) (reached-told opened window earlier w q.1) q.0
 
 pub file-tells : FileTells
 file-tells opened window points r window' points' l e c =
-    let t = textRead l.earlier l.at in
+    let t = text_read l.earlier l.at in
     let h = reached-told points opened window l.earlier l.at l.reached in
     subst (λ (f : TraverseFile). Tells f.answer f (t ++ e) points points') (sym l.file)
-    (subst (λ (p : List ℤ). Tells (loadedBy (stepOf l.at).answer.answer) (fileBy (stepOf l.at).answer) (t ++ e) points p) (sym l.points-left)
-    (by (stepOf l.at) h.from (step-tells points l.at t h e c)))
+    (subst (λ (p : List ℤ). Tells (loaded_by (step_of l.at).answer.answer) (file_by (step_of l.at).answer) (t ++ e) points p) (sym l.points-left)
+    (by (step_of l.at) h.from (step-tells points l.at t h e c)))
   where
-    by : (x : Leaves TraverseStep) (o : ℕ) → carried (textRead l.earlier l.at ++ e) o x ≡ traverseLeft (textRead l.earlier l.at ++ e) points
-        → Tells (loadedBy x.answer.answer) (fileBy x.answer) (textRead l.earlier l.at ++ e) points x.numbers
+    by : (x : Leaves TraverseStep) (o : ℕ) → carried (text_read l.earlier l.at ++ e) o x ≡ traverse_left (text_read l.earlier l.at ++ e) points
+        → Tells (loaded_by x.answer.answer) (file_by x.answer) (text_read l.earlier l.at ++ e) points x.numbers
     by x o q = go x.answer.answer q
       where
-        go : (p : Progress) → carriedBy (textRead l.earlier l.at ++ e) o p x.answer.known x.numbers ≡ traverseLeft (textRead l.earlier l.at ++ e) points
-            → Tells (loadedBy p) (fileOf (loadedBy p) x.answer.known) (textRead l.earlier l.at ++ e) points x.numbers
+        go : (p : Progress) → carried_by (text_read l.earlier l.at ++ e) o p x.answer.known x.numbers ≡ traverse_left (text_read l.earlier l.at ++ e) points
+            → Tells (loaded_by p) (file_of (loaded_by p) x.answer.known) (text_read l.earlier l.at ++ e) points x.numbers
         go progress.Read q = sym q
         go (progress.More k) q = tt
         go (progress.Refused f) q = sym q

@@ -5,7 +5,7 @@ use mathlib.Core.List.{List, [], ◌∷◌}
 use native.Mathlib.Omega.{arith}
 use Prim.Native.Nat.{ℕ, ◌+◌}
 use lib.ListN.{length}
-use Rattle.files.specs.Chain.{Chain, mostTurns}
+use Rattle.files.specs.Chain.{Chain, most_turns}
 
 pub never : true ≡ false → ⊥
 never e = let z : ◌≡◌ {A = ℕ} 0 1 = cc in omega arith
@@ -14,9 +14,9 @@ never e = let z : ◌≡◌ {A = ℕ} 0 1 = cc in omega arith
 pub record Walked {A : Type 0} (R : A → A → Type 0) (a x : A) (turns : ℕ) : Type 0 where
   pub earlier : List A
   pub reached : Chain R a earlier x
-  pub spent : turns + length earlier ≡ mostTurns
+  pub spent : turns + length earlier ≡ most_turns
 
-pub walked_none : {A : Type 0} {R : A → A → Type 0} (a : A) → Walked R a a mostTurns
+pub walked_none : {A : Type 0} {R : A → A → Type 0} (a : A) → Walked R a a most_turns
 unfolding Chain
 walked_none a = record { earlier = []; reached = refl; spent = refl }
 

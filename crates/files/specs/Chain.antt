@@ -7,5 +7,5 @@ Chain R a [] x = x ≡ a
 Chain R a (w ∷ earlier) x = R w x × Chain R a earlier w
 
 -- how many turns a loop over a file may take: 2⁵⁶, which no file uses up
-abbrev pub mostTurns : ℕ
-mostTurns = 72057594037927936
+abbrev pub most_turns : ℕ
+most_turns = 72057594037927936

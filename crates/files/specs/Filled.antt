@@ -31,14 +31,14 @@ pub record HeldWindow (a b : List ℕ) (at have n : ℕ) (last : Bool) : Type 0 
   pub ended : last ≡ eqb n (have - at)
 
 -- a read that a signal interrupted before a byte came is no failure; any other error is one
-abbrev pub gotBy : ErrorKind → Got
-gotBy Interrupted = got.Interrupted
-gotBy _ = got.Failed
+abbrev pub got_by : ErrorKind → Got
+got_by Interrupted = got.Interrupted
+got_by _ = got.Failed
 
 -- what the answer of the system's read stands for
-abbrev pub gotOf : Result ℕ Error → Got
-gotOf (Ok n) = got.Bytes n
-gotOf (Err error) = gotBy (error_kind error)
+abbrev pub got_of : Result ℕ Error → Got
+got_of (Ok n) = got.Bytes n
+got_of (Err error) = got_by (error_kind error)
 
 -- a read into a room of so many bytes gives no more than these
 abbrev pub Gives : Got → ℕ → Type 0
@@ -47,10 +47,10 @@ Gives got.Interrupted room = Unit {0}
 Gives got.Failed room = Unit {0}
 
 -- what a read makes of a window of which so many bytes were left
-abbrev pub afterRead : Got → ℕ → Filled
-afterRead (got.Bytes n) rest = Holds (rest + n) (eqb n 0)
-afterRead got.Interrupted rest = Failed
-afterRead got.Failed rest = Failed
+abbrev pub after_read : Got → ℕ → Filled
+after_read (got.Bytes n) rest = Holds (rest + n) (eqb n 0)
+after_read got.Interrupted rest = Failed
+after_read got.Failed rest = Failed
 
 -- b is the window after, a the one before, of which the bytes from `at` up to `have` were left. They are at its front though the read failed
 abbrev pub Refilled : Filled → List ℕ → List ℕ → ℕ → ℕ → Type 0
@@ -58,8 +58,8 @@ Refilled (Holds n last) a b at have = HeldWindow a b at have n last
 Refilled Failed a b at have = InFront a b at have
 
 -- the bytes that were read into the window b, of which n hold text and so many were left before
-abbrev pub readBehind : ℕ → ℕ → List ℕ → List ℕ
-readBehind rest n b = drop rest (take n b)
+abbrev pub read_behind : ℕ → ℕ → List ℕ → List ℕ
+read_behind rest n b = drop rest (take n b)
 
 -- ---- the output
 

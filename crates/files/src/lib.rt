@@ -6,8 +6,8 @@
 
 ghost use Rattle.std.specs.Prelude.{◌≡◌, ℕ, ◌+◌, ◌-◌, ◌<◌, ◌≤◌, ◌^◌, length};
 ghost use Rattle.reader.specs.Text.{byte};
-ghost use Rattle.files.specs.Filled.{Refills, gotOf, Gives, afterRead, Refilled, Flushes};
-ghost use Rattle.files.specs.TraverseFile.{fileOf, Loads, LoadsSome};
+ghost use Rattle.files.specs.Filled.{Refills, got_of, Gives, after_read, Refilled, Flushes};
+ghost use Rattle.files.specs.TraverseFile.{file_of, Loads, LoadsSome};
 
 use reader::{Cursor, Known, Progress};
 use records::{Head, Refusal};
@@ -38,7 +38,7 @@ pub enum Got {
 }
 
 fn got_of(answer: &io::Result<usize>) -> Got
-    ensures { result ≡ gotOf answer.now }
+    ensures { result ≡ got_of answer.now }
 {
     match answer {
         Ok(n) => Got::Bytes(*n),
@@ -102,7 +102,7 @@ fn read_through(rt: &HostRuntime, name: &str, file: &mut Option<File>, buf: &mut
 // How a window stands after a read, where `rest` bytes were left of it: a read of no bytes is the file's end.
 fn after_read(got: Got, rest: usize) -> Filled
     requires { Gives got (2 ^ 64 - 1 - rest) }
-    ensures { result ≡ afterRead got rest }
+    ensures { result ≡ after_read got rest }
 {
     match got {
         Got::Bytes(more) => Filled::Holds(rest + more, more == 0),
@@ -147,7 +147,7 @@ pub struct TraverseFile {
 }
 
 fn file_of(answer: Loaded, known: Known) -> TraverseFile
-    ensures { result ≡ fileOf answer known }
+    ensures { result ≡ file_of answer known }
 {
     let head = known.head;
     TraverseFile {

@@ -18,8 +18,8 @@ use Rattle.ranges.proofs.IntegerOrder.{le-or-gt}
 use Rattle.ranges.proofs.RingSolver.{ring, reify}
 use Rattle.ranges.proofs.LinearSolver.{zomega, says, ◌&◌}
 use Rattle.forcing.specs.declared.sines.Place.{Place}
-use Rattle.forcing.specs.Sine.{sineEntry, scaledSine}
-use Rattle.forcing.specs.Quadrant.{Angle, InTable, placeOf, signed, sineOf, quarterOn, cosineOf}
+use Rattle.forcing.specs.Sine.{sine_entry, scaled_sine}
+use Rattle.forcing.specs.Quadrant.{Angle, InTable, place_of, signed, sine_of, quarter_on, cosine_of}
 use Rattle.forcing.proofs.SineTable.{entry-rule}
 
 -- ---- tests
@@ -47,19 +47,19 @@ table-place z i = let m = abs-most z 900 i.low i.high in omega arith
 
 -- the quadrant of an angle: the definition's tests there, and the place
 pub record First (a : ℤ) : Type 0 where
-  pub is : placeOf a ≡ record { at = nat_abs a; negative = false }
+  pub is : place_of a ≡ record { at = nat_abs a; negative = false }
   pub place : InTable a
 
 pub record Second (a : ℤ) : Type 0 where
-  pub is : placeOf a ≡ record { at = nat_abs (pos 1800 -ℤ a); negative = false }
+  pub is : place_of a ≡ record { at = nat_abs (pos 1800 -ℤ a); negative = false }
   pub place : InTable (pos 1800 -ℤ a)
 
 pub record Third (a : ℤ) : Type 0 where
-  pub is : placeOf a ≡ record { at = nat_abs (a -ℤ pos 1800); negative = true }
+  pub is : place_of a ≡ record { at = nat_abs (a -ℤ pos 1800); negative = true }
   pub place : InTable (a -ℤ pos 1800)
 
 pub record Fourth (a : ℤ) : Type 0 where
-  pub is : placeOf a ≡ record { at = nat_abs (pos 3600 -ℤ a); negative = true }
+  pub is : place_of a ≡ record { at = nat_abs (pos 3600 -ℤ a); negative = true }
   pub place : InTable (pos 3600 -ℤ a)
 
 module _ (a : ℤ) (h : Angle a) where
@@ -104,19 +104,19 @@ module _ (a : ℤ) (h : Angle a) where
       go (inr i) (inr j) (inr l) = f₄ (fourth i j l)
 
 -- every angle's place is one of the table
-pub place_in : (a : ℤ) → Angle a → (placeOf a).at < 901
+pub place_in : (a : ℤ) → Angle a → (place_of a).at < 901
 place_in a h =
     by-quadrant a h (λ q. put q.is q.place) (λ q. put q.is q.place) (λ q. put q.is q.place) (λ q. put q.is q.place)
   where
-    put : {z : ℤ} {b : Bool} → placeOf a ≡ record { at = nat_abs z; negative = b } → InTable z → (placeOf a).at < 901
+    put : {z : ℤ} {b : Bool} → place_of a ≡ record { at = nat_abs z; negative = b } → InTable z → (place_of a).at < 901
     put {z} {b} e i = subst (λ (p : Place). p.at < 901) (sym e) (table-place z i)
 
 -- ---- the size of a sine
 
-pub entry-sized : (n : ℕ) → n < 901 → Sized (pos 10000) (sineEntry n)
+pub entry-sized : (n : ℕ) → n < 901 → Sized (pos 10000) (sine_entry n)
 entry-sized n h =
     let r = entry-rule n h in
-    let x = sineEntry n in
+    let x = sine_entry n in
     record { low = zomega (x ∷ []) r.low (search says depth 20) (omega arith); high = r.high }
 
 neg-sized : (b x : ℤ) → Sized b x → Sized b (neg_ℤ x)
@@ -130,9 +130,9 @@ signed-sized true b x s = neg-sized b x s
 signed-sized false b x s = s
 
 -- |sine| ≤ 10,000
-pub sine-sized : (a : ℤ) → Angle a → Sized (pos 10000) (sineOf a)
-unfolding sineOf
-sine-sized a h = signed-sized (placeOf a).negative (pos 10000) (sineEntry (placeOf a).at) (entry-sized (placeOf a).at (place_in a h))
+pub sine-sized : (a : ℤ) → Angle a → Sized (pos 10000) (sine_of a)
+unfolding sine_of
+sine-sized a h = signed-sized (place_of a).negative (pos 10000) (sine_entry (place_of a).at) (entry-sized (place_of a).at (place_in a h))
 
 -- ---- a quarter turn on
 
@@ -146,20 +146,20 @@ past-quarter a h t =
     let l = lt-false a (pos 2700) t in
     record { low = zomega (a ∷ []) l (search says depth 20) (omega arith); high = zomega (a ∷ []) h.high (search says depth 20) (omega arith) }
 
-pub quarter-in : (a : ℤ) → Angle a → Angle (quarterOn a)
+pub quarter-in : (a : ℤ) → Angle a → Angle (quarter_on a)
 quarter-in a h = go (lt_z a (pos 2700)) refl
   where
-    go : (t : Bool) → lt_z a (pos 2700) ≡ t → Angle (quarterOn a)
+    go : (t : Bool) → lt_z a (pos 2700) ≡ t → Angle (quarter_on a)
     go true e = rw e (before-quarter a h e)
     go false e = rw e (past-quarter a h e)
 
 -- cosine is the sine a quarter turn on, |cosine| ≤ 10,000
-pub cosine-is : (a : ℤ) → cosineOf a ≡ sineOf (quarterOn a)
-unfolding cosineOf
+pub cosine-is : (a : ℤ) → cosine_of a ≡ sine_of (quarter_on a)
+unfolding cosine_of
 cosine-is a = refl
 
-pub cosine-sized : (a : ℤ) → Angle a → Sized (pos 10000) (cosineOf a)
-cosine-sized a h = rw (cosine-is a) (sine-sized (quarterOn a) (quarter-in a h))
+pub cosine-sized : (a : ℤ) → Angle a → Sized (pos 10000) (cosine_of a)
+cosine-sized a h = rw (cosine-is a) (sine-sized (quarter_on a) (quarter-in a h))
 
 -- an angle is within 64 bits
 pub angle-fits : (a : ℤ) → Angle a → SFits w64 a
@@ -167,29 +167,29 @@ angle-fits a h = zomega (a ∷ []) (h.low & h.high) (search says depth 20) (omeg
 
 -- ---- what the code of `sine` makes of a place and its entry
 
-module _ (a : ℤ) (p : Place) (x : ℤ) (e : p ≡ placeOf a) (f : x ≡ sineEntry p.at) where
-  signed_is : signed p.negative x ≡ sineOf a
-  unfolding sineOf
-  signed_is = ap (signed p.negative) f ∙ ap (λ (q : Place). signed q.negative (sineEntry q.at)) e
+module _ (a : ℤ) (p : Place) (x : ℤ) (e : p ≡ place_of a) (f : x ≡ sine_entry p.at) where
+  signed_is : signed p.negative x ≡ sine_of a
+  unfolding sine_of
+  signed_is = ap (signed p.negative) f ∙ ap (λ (q : Place). signed q.negative (sine_entry q.at)) e
 
-  pub minus_is : p.negative ≡ true → pos 0 -ℤ x ≡ sineOf a
+  pub minus_is : p.negative ≡ true → pos 0 -ℤ x ≡ sine_of a
   minus_is t = +ℤ_idl (neg_ℤ x) ∙ ap (λ (b : Bool). signed b x) (sym t) ∙ signed_is
 
-  pub plus-is : p.negative ≡ false → x ≡ sineOf a
+  pub plus-is : p.negative ≡ false → x ≡ sine_of a
   plus-is t = ap (λ (b : Bool). signed b x) (sym t) ∙ signed_is
 
 -- ---- half a turn on
 
 -- the sine by the table, quadrant by quadrant
 signed-at : Place → ℤ
-signed-at p = signed p.negative (sineEntry p.at)
+signed-at p = signed p.negative (sine_entry p.at)
 
-at_place : (a : ℤ) (p : Place) → placeOf a ≡ p → sineOf a ≡ signed-at p
-unfolding sineOf signed-at
-at_place a p e = ap (λ (q : Place). signed q.negative (sineEntry q.at)) e
+at_place : (a : ℤ) (p : Place) → place_of a ≡ p → sine_of a ≡ signed-at p
+unfolding sine_of signed-at
+at_place a p e = ap (λ (q : Place). signed q.negative (sine_entry q.at)) e
 
-sine-half-zero : sineOf (pos 1800) ≡ neg_ℤ (sineOf (pos 0))
-unfolding sineOf sineEntry scaledSine ◌/F◌
+sine-half-zero : sine_of (pos 1800) ≡ neg_ℤ (sine_of (pos 0))
+unfolding sine_of sine_entry scaled_sine ◌/F◌
 sine-half-zero = refl
 
 module _ (a : ℤ) (h : Angle a) (k : a <ℤ pos 1800) where
@@ -200,22 +200,22 @@ module _ (a : ℤ) (h : Angle a) (k : a <ℤ pos 1800) where
   }
 
   -- the sine of a half turn more is the negative
-  pub sine-half : sineOf (a +ℤ pos 1800) ≡ neg_ℤ (sineOf a)
+  pub sine-half : sine_of (a +ℤ pos 1800) ≡ neg_ℤ (sine_of a)
   unfolding signed-at
   sine-half = go (le-or-gt a (pos 0)) (le-or-gt a (pos 900))
     where
-      go : (a ≤ℤ pos 0) ⊎ (pos 0 <ℤ a) → (a ≤ℤ pos 900) ⊎ (pos 900 <ℤ a) → sineOf (a +ℤ pos 1800) ≡ neg_ℤ (sineOf a)
+      go : (a ≤ℤ pos 0) ⊎ (pos 0 <ℤ a) → (a ≤ℤ pos 900) ⊎ (pos 900 <ℤ a) → sine_of (a +ℤ pos 1800) ≡ neg_ℤ (sine_of a)
       go (inl z) y =
           let low = h.low in
           let e : pos 0 ≡ a = zomega (a ∷ []) (z & low) (search says depth 20) (omega arith) in
-          subst (λ (x : ℤ). sineOf (x +ℤ pos 1800) ≡ neg_ℤ (sineOf x)) e sine-half-zero
+          subst (λ (x : ℤ). sine_of (x +ℤ pos 1800) ≡ neg_ℤ (sine_of x)) e sine-half-zero
       go (inr l) (inl m) =
           let q = third (a +ℤ pos 1800) turned
           (zomega (a ∷ []) l (search says depth 20) (omega arith))
           (zomega (a ∷ []) l (search says depth 20) (omega arith))
           (zomega (a ∷ []) m (search says depth 20) (omega arith)) in
           let e : a +ℤ pos 1800 -ℤ pos 1800 ≡ a = ring (a ∷ []) (search reify depth 20) tt in
-          at_place (a +ℤ pos 1800) _ q.is ∙ ap (λ (x : ℤ). neg_ℤ (sineEntry (nat_abs x))) e ∙ ap neg_ℤ (sym (at_place a _ (first a h m).is))
+          at_place (a +ℤ pos 1800) _ q.is ∙ ap (λ (x : ℤ). neg_ℤ (sine_entry (nat_abs x))) e ∙ ap neg_ℤ (sym (at_place a _ (first a h m).is))
       go (inr l) (inr m) =
           let q = fourth (a +ℤ pos 1800) turned
           (zomega (a ∷ []) m (search says depth 20) (omega arith))
@@ -223,10 +223,10 @@ module _ (a : ℤ) (h : Angle a) (k : a <ℤ pos 1800) where
           (zomega (a ∷ []) m (search says depth 20) (omega arith)) in
           let e : pos 3600 -ℤ (a +ℤ pos 1800) ≡ pos 1800 -ℤ a = ring (a ∷ []) (search reify depth 20) tt in
           let n : a ≤ℤ pos 1800 = zomega (a ∷ []) k (search says depth 20) (omega arith) in
-          at_place (a +ℤ pos 1800) _ q.is ∙ ap (λ (x : ℤ). neg_ℤ (sineEntry (nat_abs x))) e ∙ ap neg_ℤ (sym (at_place a _ (second a h m n).is))
+          at_place (a +ℤ pos 1800) _ q.is ∙ ap (λ (x : ℤ). neg_ℤ (sine_entry (nat_abs x))) e ∙ ap neg_ℤ (sym (at_place a _ (second a h m n).is))
 
 -- and of a half turn less
-pub sine-half-back : (a : ℤ) → Angle a → pos 1800 ≤ℤ a → sineOf (a -ℤ pos 1800) ≡ neg_ℤ (sineOf a)
+pub sine-half-back : (a : ℤ) → Angle a → pos 1800 ≤ℤ a → sine_of (a -ℤ pos 1800) ≡ neg_ℤ (sine_of a)
 sine-half-back a h k =
     let b = a -ℤ pos 1800 in
     let high = h.high in
@@ -236,4 +236,4 @@ sine-half-back a h k =
     } in
     let l : b <ℤ pos 1800 = zomega (a ∷ []) high (search says depth 20) (omega arith) in
     let e : b +ℤ pos 1800 ≡ a = ring (a ∷ []) (search reify depth 20) tt in
-    sym (neg_ℤ-neg_ℤ (sineOf b)) ∙ ap neg_ℤ (sym (sine-half b g l) ∙ ap sineOf e)
+    sym (neg_ℤ-neg_ℤ (sine_of b)) ∙ ap neg_ℤ (sym (sine-half b g l) ∙ ap sine_of e)

@@ -21,9 +21,9 @@ use Rattle.ranges.proofs.FractionLaws.{div-num, div-den, div_same}
 use Rattle.ranges.proofs.IntegerOrder.{le_antisymm, le-or-gt, nn-mul, nn-sq}
 use Rattle.ranges.proofs.LinearSolver.{zomega, says, ◌&◌}
 use Rattle.ranges.proofs.RingSolver.{ring, reify}
-use Rattle.forcing.specs.Coefficient.{K₁, K₂, Wc, Equation9a, coefficientOf, asFraction}
+use Rattle.forcing.specs.Coefficient.{K₁, K₂, Wc, Equation9a, coefficient_of, as_fraction}
 use Rattle.forcing.specs.Quadrant.{Angle}
-use Rattle.forcing.specs.Stress.{Wind, calm, stressOf, q, StressRight, crossOf, onshoreOf}
+use Rattle.forcing.specs.Stress.{Wind, calm, stress_of, q, StressRight, cross_of, onshore_of}
 use Rattle.forcing.proofs.QuadrantLaws.{sine-sized, cosine-sized}
 
 pub sized-wider : {a b x : ℤ} → a ≤ℤ b → Sized a x → Sized b x
@@ -63,66 +63,66 @@ module _ (w : ℤ) (h : Wind w) where
     pub sum-sized : Sized (pos 128640000) (K₁ *ℤ (w *ℤ w) +ℤ K₂ *ℤ ((w -ℤ Wc) *ℤ (w -ℤ Wc)))
     sum-sized = sized-add base-sized added-sized
 
-  pub numerator-sized : Sized (pos 128640000) (coefficientOf w).numerator
+  pub numerator-sized : Sized (pos 128640000) (coefficient_of w).numerator
   numerator-sized = go (le_z w Wc) refl
     where
-      go : (t : Bool) → le_z w Wc ≡ t → Sized (pos 128640000) (coefficientOf w).numerator
+      go : (t : Bool) → le_z w Wc ≡ t → Sized (pos 128640000) (coefficient_of w).numerator
       go true e = rw e (sized-wider (le_z_yes tt) base-sized)
       go false e = rw e (sum-sized (le-false w Wc e))
 
 -- ---- k is equation 9a's
 
 -- from W_c on: at W_c itself the second term is 0
-from-critical : (w : ℤ) → Wc ≤ℤ w → (coefficientOf w).numerator ≡ K₁ *ℤ (w *ℤ w) +ℤ K₂ *ℤ ((w -ℤ Wc) *ℤ (w -ℤ Wc))
+from-critical : (w : ℤ) → Wc ≤ℤ w → (coefficient_of w).numerator ≡ K₁ *ℤ (w *ℤ w) +ℤ K₂ *ℤ ((w -ℤ Wc) *ℤ (w -ℤ Wc))
 from-critical w h = go (le_z w Wc) refl
   where
-    go : (t : Bool) → le_z w Wc ≡ t → (coefficientOf w).numerator ≡ K₁ *ℤ (w *ℤ w) +ℤ K₂ *ℤ ((w -ℤ Wc) *ℤ (w -ℤ Wc))
-    go true e = subst (λ (x : ℤ). (coefficientOf x).numerator ≡ K₁ *ℤ (x *ℤ x) +ℤ K₂ *ℤ ((x -ℤ Wc) *ℤ (x -ℤ Wc))) (sym (le_antisymm (le-true w Wc e) h)) refl
+    go : (t : Bool) → le_z w Wc ≡ t → (coefficient_of w).numerator ≡ K₁ *ℤ (w *ℤ w) +ℤ K₂ *ℤ ((w -ℤ Wc) *ℤ (w -ℤ Wc))
+    go true e = subst (λ (x : ℤ). (coefficient_of x).numerator ≡ K₁ *ℤ (x *ℤ x) +ℤ K₂ *ℤ ((x -ℤ Wc) *ℤ (x -ℤ Wc))) (sym (le_antisymm (le-true w Wc e) h)) refl
     go false e = rw e
 
 -- where w ≤ W_c
-to-critical : (w : ℤ) → w ≤ℤ Wc → (coefficientOf w).numerator ≡ K₁ *ℤ (w *ℤ w)
+to-critical : (w : ℤ) → w ≤ℤ Wc → (coefficient_of w).numerator ≡ K₁ *ℤ (w *ℤ w)
 to-critical w h = rw (le_yes h)
 
-equation-9a : (w : ℤ) → pos 0 <ℤ w → Equation9a w (asFraction (coefficientOf w))
+equation-9a : (w : ℤ) → pos 0 <ℤ w → Equation9a w (as_fraction (coefficient_of w))
 equation-9a w p = record {
-  below = λ h. div_same (whole (coefficientOf w).numerator) (whole (w *ℤ w)) (whole K₁) (pos-mul p p) (rw (to-critical w h) (ring (w ∷ []) (search reify depth 20) tt));
-  above = λ h. div_same (whole (coefficientOf w).numerator) (whole (w *ℤ w)) _ (pos-mul p p)
+  below = λ h. div_same (whole (coefficient_of w).numerator) (whole (w *ℤ w)) (whole K₁) (pos-mul p p) (rw (to-critical w h) (ring (w ∷ []) (search reify depth 20) tt));
+  above = λ h. div_same (whole (coefficient_of w).numerator) (whole (w *ℤ w)) _ (pos-mul p p)
       (rw (from-critical w h, div-num (whole Wc) (whole w) p, div-den (whole Wc) (whole w) p) (ring (w ∷ []) (search reify depth 20) tt));
 }
 
 -- ---- k times w²
 
-numerator-nn : (w : ℤ) → pos 0 ≤ℤ (coefficientOf w).numerator
+numerator-nn : (w : ℤ) → pos 0 ≤ℤ (coefficient_of w).numerator
 numerator-nn w = go (le_z w Wc)
   where
     go : (t : Bool) → pos 0 ≤ℤ cond t (K₁ *ℤ (w *ℤ w)) (K₁ *ℤ (w *ℤ w) +ℤ K₂ *ℤ ((w -ℤ Wc) *ℤ (w -ℤ Wc)))
     go true = let s = nn-sq w in zomega (w ∷ []) s (search says depth 20) (omega arith)
     go false = let s = nn-sq w in let e = nn-sq (w -ℤ Wc) in zomega (w ∷ []) (s & e) (search says depth 20) (omega arith)
 
-no-rest : (w : ℤ) → pos 0 <ℤ w → rem_z ((coefficientOf w).numerator *ℤ (w *ℤ w)) (coefficientOf w).square ≡ pos 0
-no-rest w p = rest-times (coefficientOf w).numerator (w *ℤ w) (numerator-nn w) (pos-mul p p)
+no-rest : (w : ℤ) → pos 0 <ℤ w → rem_z ((coefficient_of w).numerator *ℤ (w *ℤ w)) (coefficient_of w).square ≡ pos 0
+no-rest w p = rest-times (coefficient_of w).numerator (w *ℤ w) (numerator-nn w) (pos-mul p p)
 
 -- k times w² is the numerator
-blowing-is : (w : ℤ) → pos 0 <ℤ w → stressOf w ≡ (coefficientOf w).numerator
-unfolding stressOf
-blowing-is w p = rw (test w p) (floor-times (coefficientOf w).numerator (w *ℤ w) (pos-mul p p))
+blowing-is : (w : ℤ) → pos 0 <ℤ w → stress_of w ≡ (coefficient_of w).numerator
+unfolding stress_of
+blowing-is w p = rw (test w p) (floor-times (coefficient_of w).numerator (w *ℤ w) (pos-mul p p))
   where
     test : (w : ℤ) → pos 0 <ℤ w → calm w ≡ false
     test (pos n) p = let l = ltb→lt 0 n p.lt in ne_eqb n 0 (λ e. omega arith)
     test (negsuc n) p = absurd p.lt
 
-pub calm-is : stressOf (pos 0) ≡ pos 0
-unfolding stressOf
+pub calm-is : stress_of (pos 0) ≡ pos 0
+unfolding stress_of
 calm-is = refl
 
 -- the numerator is document 01's q
-stress-is : (w : ℤ) → Wind w → stressOf w ≡ q w
+stress-is : (w : ℤ) → Wind w → stress_of w ≡ q w
 unfolding q
 stress-is w h = go (le-or-gt w (pos 0))
   where
-    go : (w ≤ℤ pos 0) ⊎ (pos 0 <ℤ w) → stressOf w ≡ q w
-    go (inl k) = subst (λ (x : ℤ). stressOf x ≡ q x) (le_antisymm h.low k) calm-is
+    go : (w ≤ℤ pos 0) ⊎ (pos 0 <ℤ w) → stress_of w ≡ q w
+    go (inl k) = subst (λ (x : ℤ). stress_of x ≡ q x) (le_antisymm h.low k) calm-is
     go (inr p) = blowing-is w p
 
 pub stress-right : StressRight
@@ -132,7 +132,7 @@ stress-right = record {
   is = stress-is;
 }
 
-pub stress-sized : (w : ℤ) → Wind w → Sized (pos 128640000) (stressOf w)
+pub stress-sized : (w : ℤ) → Wind w → Sized (pos 128640000) (stress_of w)
 unfolding q
 stress-sized w h = subst (Sized (pos 128640000)) (sym (stress-is w h)) (numerator-sized w h)
 
@@ -143,11 +143,11 @@ pub record Times (w n s : ℤ) : Type 0 where
   pub above : pos 0 <ℤ s
   pub square : SFits w64 (w *ℤ w)
   pub top : SFits w64 (n *ℤ (w *ℤ w))
-  pub is : quot_z (n *ℤ (w *ℤ w)) s ≡ stressOf w
+  pub is : quot_z (n *ℤ (w *ℤ w)) s ≡ stress_of w
 
-pub times : (w : ℤ) → Wind w → pos 0 <ℤ w → Times w (coefficientOf w).numerator (coefficientOf w).square
+pub times : (w : ℤ) → Wind w → pos 0 <ℤ w → Times w (coefficient_of w).numerator (coefficient_of w).square
 times w h p =
-    let n = (coefficientOf w).numerator in
+    let n = (coefficient_of w).numerator in
     let s = pos-mul p p in
     let f = sized-fits (le_z_yes tt) (square-sized w h) in
     record {
@@ -164,24 +164,24 @@ times w h p =
 -- what the code of both makes: q times the sine or cosine y
 pub record Part (w y q x : ℤ) : Type 0 where
   pub fits : SFits w64 (q *ℤ x)
-  pub is : q *ℤ x ≡ stressOf w *ℤ y
+  pub is : q *ℤ x ≡ stress_of w *ℤ y
 
-pub part : {w y q x : ℤ} → Wind w → Sized (pos 10000) y → q ≡ stressOf w → x ≡ y → Part w y q x
+pub part : {w y q x : ℤ} → Wind w → Sized (pos 10000) y → q ≡ stress_of w → x ≡ y → Part w y q x
 part {w} {y} {q} {x} h s e f =
-    let is : q *ℤ x ≡ stressOf w *ℤ y = ap₂ (λ (a b : ℤ). a *ℤ b) e f in
+    let is : q *ℤ x ≡ stress_of w *ℤ y = ap₂ (λ (a b : ℤ). a *ℤ b) e f in
     record { fits = subst (SFits w64) (sym is) (sized-fits (le_z_yes tt) (sized-mul (stress-sized w h) s)); is = is }
 
-pub cross-sized : (w a : ℤ) → Wind w → Angle a → Sized (pos 1286400000000) (crossOf w a)
-unfolding crossOf
+pub cross-sized : (w a : ℤ) → Wind w → Angle a → Sized (pos 1286400000000) (cross_of w a)
+unfolding cross_of
 cross-sized w a h k = sized-mul (stress-sized w h) (sine-sized a k)
 
-pub onshore-sized : (w a : ℤ) → Wind w → Angle a → Sized (pos 1286400000000) (onshoreOf w a)
-unfolding onshoreOf
+pub onshore-sized : (w a : ℤ) → Wind w → Angle a → Sized (pos 1286400000000) (onshore_of w a)
+unfolding onshore_of
 onshore-sized w a h k = sized-mul (stress-sized w h) (cosine-sized a k)
 
 -- the two ends of a segment
-pub cross-sum-sized : (w a w' a' : ℤ) → Wind w → Angle a → Wind w' → Angle a' → Sized (pos 2572800000000) (crossOf w a +ℤ crossOf w' a')
+pub cross-sum-sized : (w a w' a' : ℤ) → Wind w → Angle a → Wind w' → Angle a' → Sized (pos 2572800000000) (cross_of w a +ℤ cross_of w' a')
 cross-sum-sized w a w' a' h k h' k' = sized-add (cross-sized w a h k) (cross-sized w' a' h' k')
 
-pub onshore-sum-sized : (w a w' a' : ℤ) → Wind w → Angle a → Wind w' → Angle a' → Sized (pos 2572800000000) (onshoreOf w a +ℤ onshoreOf w' a')
+pub onshore-sum-sized : (w a w' a' : ℤ) → Wind w → Angle a → Wind w' → Angle a' → Sized (pos 2572800000000) (onshore_of w a +ℤ onshore_of w' a')
 onshore-sum-sized w a w' a' h k h' k' = sized-add (onshore-sized w a h k) (onshore-sized w' a' h' k')

@@ -26,12 +26,12 @@ pub record Equation9a (w : ℤ) (k : Frac) : Type 0 where
   pub above : Wc ≤ℤ w → k ≈F (whole K₁ +F whole K₂ *F (whole (pos 1) -F whole Wc /F whole w) ^F 2)
 
 -- document 02: "the coefficient k as a whole number over w²". K₂(1 - W_c/w)² is K₂(w - W_c)² over w²
-abbrev pub coefficientOf : ℤ → StressCoefficient
-coefficientOf w = record {
+abbrev pub coefficient_of : ℤ → StressCoefficient
+coefficient_of w = record {
   numerator = cond (le_z w Wc) (K₁ *ℤ (w *ℤ w)) (K₁ *ℤ (w *ℤ w) +ℤ K₂ *ℤ ((w -ℤ Wc) *ℤ (w -ℤ Wc)));
   square = w *ℤ w;
 }
 
 -- k itself
-abbrev pub asFraction : StressCoefficient → Frac
-asFraction k = whole k.numerator /F whole k.square
+abbrev pub as_fraction : StressCoefficient → Frac
+as_fraction k = whole k.numerator /F whole k.square

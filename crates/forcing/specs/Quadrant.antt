@@ -2,7 +2,7 @@
 use Rattle.std.specs.Prelude.{Bool, true, false, cond, ℤ, pos, nat_abs, neg_ℤ, ◌+ℤ◌, ◌-ℤ◌, ◌≤ℤ◌}
 use Rattle.std.specs.Int.Signed.{le_z, lt_z}
 use Rattle.forcing.specs.declared.sines.Place.{Place}
-use Rattle.forcing.specs.Sine.{sineEntry}
+use Rattle.forcing.specs.Sine.{sine_entry}
 
 -- the limits of an angle
 pub record Angle (a : ℤ) : Type 0 where
@@ -15,8 +15,8 @@ pub record InTable (z : ℤ) : Type 0 where
   pub high : z ≤ℤ pos 900
 
 -- an angle's place in the table, and whether the sine is negative there
-abbrev pub placeOf : ℤ → Place
-placeOf a =
+abbrev pub place_of : ℤ → Place
+place_of a =
     cond (le_z a (pos 900)) (record { at = nat_abs a; negative = false })
     (cond (le_z a (pos 1800)) (record { at = nat_abs (pos 1800 -ℤ a); negative = false })
     (cond (le_z a (pos 2700)) (record { at = nat_abs (a -ℤ pos 1800); negative = true })
@@ -27,12 +27,12 @@ abbrev pub signed : Bool → ℤ → ℤ
 signed true x = neg_ℤ x
 signed false x = x
 
-unfoldable pub sineOf : ℤ → ℤ
-sineOf a = signed (placeOf a).negative (sineEntry (placeOf a).at)
+unfoldable pub sine_of : ℤ → ℤ
+sine_of a = signed (place_of a).negative (sine_entry (place_of a).at)
 
 -- a quarter turn on: 900 more, less 3,600 where that is past the circle
-abbrev pub quarterOn : ℤ → ℤ
-quarterOn a = cond (lt_z a (pos 2700)) (a +ℤ pos 900) (a -ℤ pos 2700)
+abbrev pub quarter_on : ℤ → ℤ
+quarter_on a = cond (lt_z a (pos 2700)) (a +ℤ pos 900) (a -ℤ pos 2700)
 
-unfoldable pub cosineOf : ℤ → ℤ
-cosineOf a = sineOf (quarterOn a)
+unfoldable pub cosine_of : ℤ → ℤ
+cosine_of a = sine_of (quarter_on a)

@@ -2,10 +2,10 @@
 -- is in quotation marks is document 02, Q-2, unless it is said.
 use Rattle.std.specs.Prelude.{◌≡◌, Bool, cond, eqb, ℤ, pos, nat_abs, ◌+ℤ◌, ◌-ℤ◌, ◌*ℤ◌, ◌≤ℤ◌, ◌<ℤ◌}
 use Rattle.std.specs.Int.Signed.{le_z, rem_z}
-use Rattle.ranges.specs.Division.{floorDiv}
-use Rattle.forcing.specs.Coefficient.{Equation9a, coefficientOf, asFraction}
+use Rattle.ranges.specs.Division.{floor_div}
+use Rattle.forcing.specs.Coefficient.{Equation9a, coefficient_of, as_fraction}
 use Rattle.forcing.specs.declared.stresses.PointStress.{PointStress}
-use Rattle.forcing.specs.Quadrant.{sineOf, cosineOf}
+use Rattle.forcing.specs.Quadrant.{sine_of, cosine_of}
 
 -- the limits of a wind
 pub record Wind (w : ℤ) : Type 0 where
@@ -17,8 +17,8 @@ abbrev pub calm : ℤ → Bool
 calm w = eqb (nat_abs w) 0
 
 -- q: "then k times w², where the division comes out even, and a calm taken apart"
-unfoldable pub stressOf : ℤ → ℤ
-stressOf w = cond (calm w) (pos 0) (floorDiv ((coefficientOf w).numerator *ℤ (w *ℤ w)) (coefficientOf w).square)
+unfoldable pub stress_of : ℤ → ℤ
+stress_of w = cond (calm w) (pos 0) (floor_div ((coefficient_of w).numerator *ℤ (w *ℤ w)) (coefficient_of w).square)
 
 -- q as document 01 has it: "11w² up to w = 160, above it 11w² + 25(w - 160)²"
 unfoldable pub q : ℤ → ℤ
@@ -30,18 +30,18 @@ q w =
 -- what is shown for every wind, `stress-right` (`proofs/StressLaws.antt`). From 1 on: k is equation 9a's, and k times w² leaves no rest. From 0 on: the
 -- stress is document 01's
 pub record StressRight : Type 0 where
-  pub printed : (w : ℤ) → Wind w → pos 0 <ℤ w → Equation9a w (asFraction (coefficientOf w))
-  pub rest : (w : ℤ) → Wind w → pos 0 <ℤ w → rem_z ((coefficientOf w).numerator *ℤ (w *ℤ w)) (coefficientOf w).square ≡ pos 0
-  pub is : (w : ℤ) → Wind w → stressOf w ≡ q w
+  pub printed : (w : ℤ) → Wind w → pos 0 <ℤ w → Equation9a w (as_fraction (coefficient_of w))
+  pub rest : (w : ℤ) → Wind w → pos 0 <ℤ w → rem_z ((coefficient_of w).numerator *ℤ (w *ℤ w)) (coefficient_of w).square ≡ pos 0
+  pub is : (w : ℤ) → Wind w → stress_of w ≡ q w
 
 -- the cross stress at a point: q·sine of the angle
-unfoldable pub crossOf : ℤ → ℤ → ℤ
-crossOf w a = stressOf w *ℤ sineOf a
+unfoldable pub cross_of : ℤ → ℤ → ℤ
+cross_of w a = stress_of w *ℤ sine_of a
 
 -- the onshore stress at a point: q·cosine of the angle
-unfoldable pub onshoreOf : ℤ → ℤ → ℤ
-onshoreOf w a = stressOf w *ℤ cosineOf a
+unfoldable pub onshore_of : ℤ → ℤ → ℤ
+onshore_of w a = stress_of w *ℤ cosine_of a
 
 -- both
-abbrev pub pointStress : ℤ → ℤ → PointStress
-pointStress w a = record { cross = crossOf w a; onshore = onshoreOf w a }
+abbrev pub point_stress : ℤ → ℤ → PointStress
+point_stress w a = record { cross = cross_of w a; onshore = onshore_of w a }

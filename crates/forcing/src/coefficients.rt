@@ -6,7 +6,7 @@
 // The wind w is in tenths of a mile per hour. K₂(1 - W_c/W)² is K₂(w - W_c)² over w², so that k is a whole number over w². A calm has no k:
 // W divides.
 ghost use Rattle.std.specs.Prelude.{◌≡◌, pos, ◌<ℤ◌};
-ghost use Rattle.forcing.specs.Coefficient.{coefficientOf};
+ghost use Rattle.forcing.specs.Coefficient.{coefficient_of};
 ghost use Rattle.forcing.specs.Stress.{Wind};
 
 // K₁: 1.1·10⁻⁶.
@@ -28,7 +28,7 @@ pub struct StressCoefficient {
 // The coefficient of a wind that is no calm.
 pub fn coefficient(w: i64) -> StressCoefficient
     requires { (Wind w) × (pos 0 <ℤ w) }
-    ensures { result ≡ coefficientOf w }
+    ensures { result ≡ coefficient_of w }
 {
     let square = w * w;
     let base = K1 * square;

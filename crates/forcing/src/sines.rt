@@ -1,7 +1,7 @@
 // Sines and cosines in ten-thousandths, of angles in tenths of a degree, from the table of the first quadrant.
 ghost use Rattle.std.specs.Prelude.{◌≡◌, nat_abs};
 ghost use Rattle.forcing.specs.Sine.{TableRight};
-ghost use Rattle.forcing.specs.Quadrant.{Angle, InTable, placeOf, sineOf, cosineOf};
+ghost use Rattle.forcing.specs.Quadrant.{Angle, InTable, place_of, sine_of, cosine_of};
 
 use super::table::entry;
 
@@ -27,7 +27,7 @@ impl Place {
 // Table place and sign, by quadrant. The angle is from 0 to 3,599.
 fn place_of(angle: i64) -> Place
     requires { Angle angle }
-    ensures { result ≡ placeOf angle }
+    ensures { result ≡ place_of angle }
 {
     match angle {
         ..=900 => Place::new(angle, false),
@@ -39,7 +39,7 @@ fn place_of(angle: i64) -> Place
 
 pub fn sine(table: &[u16; 901], angle: i64) -> i64
     requires { (TableRight table.now) × (Angle angle) }
-    ensures { result ≡ sineOf angle }
+    ensures { result ≡ sine_of angle }
 {
     let place = place_of(angle);
     let at = place.at;
@@ -50,7 +50,7 @@ pub fn sine(table: &[u16; 901], angle: i64) -> i64
 // The sine a quarter turn on.
 pub fn cosine(table: &[u16; 901], angle: i64) -> i64
     requires { (TableRight table.now) × (Angle angle) }
-    ensures { result ≡ cosineOf angle }
+    ensures { result ≡ cosine_of angle }
 {
     if angle < 2700 {
         sine(table, angle + 900)

@@ -2,7 +2,7 @@
 ghost use Rattle.std.specs.Prelude.{◌≡◌};
 ghost use Rattle.forcing.specs.Sine.{TableRight};
 ghost use Rattle.forcing.specs.Quadrant.{Angle};
-ghost use Rattle.forcing.specs.Stress.{Wind, stressOf, pointStress};
+ghost use Rattle.forcing.specs.Stress.{Wind, stress_of, point_stress};
 
 use super::coefficients::coefficient;
 use super::sines::{cosine, sine};
@@ -18,7 +18,7 @@ pub struct PointStress {
 // that the compiler sees them: then it knows that the product fits, and leaves the numerator where the division stands.
 pub fn stress(w: i64) -> i64
     requires { Wind w }
-    ensures { result ≡ stressOf w }
+    ensures { result ≡ stress_of w }
 {
     match w {
         0 => 0,
@@ -33,7 +33,7 @@ pub fn stress(w: i64) -> i64
 // The stress of a wind at a point: q is worked out once, for both parts.
 pub fn point_stress(table: &[u16; 901], wind: i64, angle: i64) -> PointStress
     requires { (TableRight table.now) × (Wind wind × Angle angle) }
-    ensures { result ≡ pointStress wind angle }
+    ensures { result ≡ point_stress wind angle }
 {
     let q = stress(wind);
     let across = sine(table, angle);

@@ -1,6 +1,6 @@
 // The sine table: ten-thousandths, one entry for each tenth of a degree from 0 to 90.0.
 ghost use Rattle.std.specs.Prelude.{◌≡◌, ◌<◌};
-ghost use Rattle.forcing.specs.Sine.{sineEntry, TableRight};
+ghost use Rattle.forcing.specs.Sine.{sine_entry, TableRight};
 
 // The table, for a caller to keep and lend: a constant is laid down anew wherever it is named, so a march names it once a record.
 pub fn sine_table() -> [u16; 901]
@@ -12,7 +12,7 @@ pub fn sine_table() -> [u16; 901]
 // Entry n of a table whose entries are right.
 pub fn entry(table: &[u16; 901], n: usize) -> i64
     requires { TableRight table.now × (n < 901) }
-    ensures { result ≡ sineEntry n }
+    ensures { result ≡ sine_entry n }
 {
     table[n] as i64
 }

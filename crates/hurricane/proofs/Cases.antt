@@ -6,19 +6,19 @@ use Prim.Native.Nat.{ℕ}
 use lib.IntN.{ℤ, pos, negsuc}
 use Rattle.ranges.specs.Fraction.{◌/F◌}
 use Rattle.ranges.specs.Range.{lesser}
-use Rattle.ranges.specs.Root.{rootIn, squareRoot, wholeRoot}
+use Rattle.ranges.specs.Root.{root_in, square_root, whole_root}
 use Rattle.records.specs.declared.Closing.{Closing}
-use Rattle.records.specs.CheckOrder.{firstBad, firstOf}
+use Rattle.records.specs.CheckOrder.{first_bad, first_of}
 use Rattle.records.specs.Groups.{wholes, groups, flat}
-use Rattle.records.specs.Limits.{inside, countOk}
+use Rattle.records.specs.Limits.{inside, count_ok}
 use Rattle.hurricane.specs.declared.Hurricane.{Hurricane}
 use Rattle.hurricane.specs.declared.WindRow.{WindRow}
-use Rattle.hurricane.specs.Checks.{risingOk, makeChecks}
-use Rattle.hurricane.specs.Factor.{scaledFactor, factorEntry}
-use Rattle.hurricane.specs.Field.{distanceOf, hundredthsOf, deficitOf, straight, windFrom, windOf, pointFor}
-use Rattle.hurricane.specs.Groups.{windRowAt, planePointAt}
-use Rattle.hurricane.specs.Limits.{pressuresOk, hurricaneOk, windCountOk, windRowOk, planePointOk}
-use Rattle.hurricane.specs.Make.{made, notMade, asked, makeOf}
+use Rattle.hurricane.specs.Checks.{rising_ok, make_checks}
+use Rattle.hurricane.specs.Factor.{scaled_factor, factor_entry}
+use Rattle.hurricane.specs.Field.{distance_of, hundredths_of, deficit_of, straight, wind_from, wind_of, point_for}
+use Rattle.hurricane.specs.Groups.{wind_row_at, plane_point_at}
+use Rattle.hurricane.specs.Limits.{pressures_ok, hurricane_ok, wind_count_ok, wind_row_ok, plane_point_ok}
+use Rattle.hurricane.specs.Make.{made, not_made, asked, make_of}
 
 -- ---- a point
 
@@ -38,19 +38,19 @@ abbrev winds : List ℤ
 winds = pos 400 ∷ pos 1000 ∷ pos 701 ∷ pos 700 ∷ []
 
 -- inside the first radius, between, at the last and beyond it
-held : (windOf winds (pos 0) ∷ windOf winds (pos 400) ∷ windOf winds (pos 700) ∷ windOf winds (pos 701) ∷ windOf winds (pos 28284) ∷ []) ≡ (pos 1000 ∷ pos 1000 ∷ pos 700 ∷ pos 700 ∷ pos 700 ∷ [])
-unfolding windOf windFrom straight windRowAt wholes
+held : (wind_of winds (pos 0) ∷ wind_of winds (pos 400) ∷ wind_of winds (pos 700) ∷ wind_of winds (pos 701) ∷ wind_of winds (pos 28284) ∷ []) ≡ (pos 1000 ∷ pos 1000 ∷ pos 700 ∷ pos 700 ∷ pos 700 ∷ [])
+unfolding wind_of wind_from straight wind_row_at wholes
 held = refl
 
 -- the greatest distance, and one that is a whole number
-far : (distanceOf (negsuc 9999) (negsuc 9999) (pos 10000) (pos 10000) ∷ distanceOf (pos 0) (pos 0) (pos 3) (negsuc 3) ∷ []) ≡ (pos 28284 ∷ pos 5 ∷ [])
-unfolding distanceOf wholeRoot squareRoot rootIn
+far : (distance_of (negsuc 9999) (negsuc 9999) (pos 10000) (pos 10000) ∷ distance_of (pos 0) (pos 0) (pos 3) (negsuc 3) ∷ []) ≡ (pos 28284 ∷ pos 5 ∷ [])
+unfolding distance_of whole_root square_root root_in
 far = refl
 
 -- R/r: 1; 0.872.., rounded down; ten; above ten; at the centre
-ratios : (hundredthsOf (pos 350) (pos 350) ∷ hundredthsOf (pos 350) (pos 401) ∷ hundredthsOf (pos 350) (pos 35) ∷ hundredthsOf (pos 350) (pos 1) ∷ hundredthsOf (pos 350) (pos 0) ∷ [])
+ratios : (hundredths_of (pos 350) (pos 350) ∷ hundredths_of (pos 350) (pos 401) ∷ hundredths_of (pos 350) (pos 35) ∷ hundredths_of (pos 350) (pos 1) ∷ hundredths_of (pos 350) (pos 0) ∷ [])
     ≡ (pos 100 ∷ pos 87 ∷ pos 1000 ∷ pos 1000 ∷ pos 1000 ∷ [])
-unfolding hundredthsOf lesser
+unfolding hundredths_of lesser
 ratios = refl
 
 -- ---- a call
@@ -69,10 +69,10 @@ abbrev room : List ℤ
 room = pos 7 ∷ pos 7 ∷ pos 7 ∷ pos 7 ∷ pos 7 ∷ pos 7 ∷ pos 7 ∷ pos 7 ∷ pos 7 ∷ pos 7 ∷ []
 
 -- e^(-10) is 0 here, e^(-1) 0.3679, e^(-0.87) 0.4190: deficits of the drop of 2.35 inches. Seconds and tide are passed on, whatever they are
-whole : makeOf (asked factorEntry (storm (pos 2757) (pos 2992)) closing winds (sites (pos 3599)) room)
+whole : make_of (asked factor_entry (storm (pos 2757) (pos 2992)) closing winds (sites (pos 3599)) room)
     ≡ record { answer = made closing; room = pos 1000 ∷ pos 0 ∷ pos 235 ∷ pos 1000 ∷ pos 900 ∷ pos 148 ∷ pos 999 ∷ pos 3599 ∷ pos 136 ∷ pos 7 ∷ [] }
-unfolding makeOf firstOf makeChecks hurricaneOk pressuresOk windCountOk countOk windRowOk planePointOk risingOk inside firstBad wholes windRowAt planePointAt groups flat
-    pointFor distanceOf wholeRoot squareRoot rootIn hundredthsOf lesser windOf windFrom straight deficitOf factorEntry scaledFactor ◌/F◌
+unfolding make_of first_of make_checks hurricane_ok pressures_ok wind_count_ok count_ok wind_row_ok plane_point_ok rising_ok inside first_bad wholes wind_row_at plane_point_at groups flat
+    point_for distance_of whole_root square_root root_in hundredths_of lesser wind_of wind_from straight deficit_of factor_entry scaled_factor ◌/F◌
 whole = refl
 
 -- Q-4, a calm: at the centre by the row's own 0, at 5 by half a unit rounded down; both get angle 0. At 10 the wind is 1 and keeps the angle given
@@ -82,10 +82,10 @@ calm-rows = pos 0 ∷ pos 0 ∷ pos 10 ∷ pos 1 ∷ []
 abbrev calm-sites : ℤ → List ℤ
 calm-sites angle = pos 0 ∷ pos 0 ∷ pos 3599 ∷ pos 5 ∷ pos 0 ∷ angle ∷ pos 10 ∷ pos 0 ∷ pos 3599 ∷ []
 
-calm-made : makeOf (asked factorEntry (storm (pos 2757) (pos 2992)) closing calm-rows (calm-sites (pos 3599)) room)
+calm-made : make_of (asked factor_entry (storm (pos 2757) (pos 2992)) closing calm-rows (calm-sites (pos 3599)) room)
     ≡ record { answer = made closing; room = pos 0 ∷ pos 0 ∷ pos 235 ∷ pos 0 ∷ pos 0 ∷ pos 235 ∷ pos 1 ∷ pos 3599 ∷ pos 235 ∷ pos 7 ∷ [] }
-unfolding makeOf firstOf makeChecks hurricaneOk pressuresOk windCountOk countOk windRowOk planePointOk risingOk inside firstBad wholes windRowAt planePointAt groups flat
-    pointFor distanceOf wholeRoot squareRoot rootIn hundredthsOf lesser windOf windFrom straight deficitOf factorEntry scaledFactor ◌/F◌
+unfolding make_of first_of make_checks hurricane_ok pressures_ok wind_count_ok count_ok wind_row_ok plane_point_ok rising_ok inside first_bad wholes wind_row_at plane_point_at groups flat
+    point_for distance_of whole_root square_root root_in hundredths_of lesser wind_of wind_from straight deficit_of factor_entry scaled_factor ◌/F◌
 calm-made = refl
 
 -- a wind that falls to 0: at the centre it is 1 and keeps its angle, at 5 it is 0 by rounding down, and at 401 the last row's 0 is held
@@ -95,29 +95,29 @@ falling-rows = pos 0 ∷ pos 1 ∷ pos 10 ∷ pos 0 ∷ []
 abbrev falling-sites : List ℤ
 falling-sites = pos 0 ∷ pos 0 ∷ pos 1 ∷ pos 5 ∷ pos 0 ∷ pos 1 ∷ pos 401 ∷ pos 0 ∷ pos 1 ∷ []
 
-calm-held : makeOf (asked factorEntry (storm (pos 2757) (pos 2992)) closing falling-rows falling-sites room)
+calm-held : make_of (asked factor_entry (storm (pos 2757) (pos 2992)) closing falling-rows falling-sites room)
     ≡ record { answer = made closing; room = pos 1 ∷ pos 1 ∷ pos 235 ∷ pos 0 ∷ pos 0 ∷ pos 235 ∷ pos 0 ∷ pos 0 ∷ pos 136 ∷ pos 7 ∷ [] }
-unfolding makeOf firstOf makeChecks hurricaneOk pressuresOk windCountOk countOk windRowOk planePointOk risingOk inside firstBad wholes windRowAt planePointAt groups flat
-    pointFor distanceOf wholeRoot squareRoot rootIn hundredthsOf lesser windOf windFrom straight deficitOf factorEntry scaledFactor ◌/F◌
+unfolding make_of first_of make_checks hurricane_ok pressures_ok wind_count_ok count_ok wind_row_ok plane_point_ok rising_ok inside first_bad wholes wind_row_at plane_point_at groups flat
+    point_for distance_of whole_root square_root root_in hundredths_of lesser wind_of wind_from straight deficit_of factor_entry scaled_factor ◌/F◌
 calm-held = refl
 
 -- the angle given at a calm is judged all the same, and the room stays
-calm-judged : makeOf (asked factorEntry (storm (pos 2757) (pos 2992)) closing calm-rows (calm-sites (pos 3600)) room) ≡ record { answer = notMade 13 2; room = room }
-unfolding makeOf firstOf makeChecks hurricaneOk pressuresOk windCountOk countOk windRowOk planePointOk risingOk inside firstBad wholes windRowAt planePointAt
+calm-judged : make_of (asked factor_entry (storm (pos 2757) (pos 2992)) closing calm-rows (calm-sites (pos 3600)) room) ≡ record { answer = not_made 13 2; room = room }
+unfolding make_of first_of make_checks hurricane_ok pressures_ok wind_count_ok count_ok wind_row_ok plane_point_ok rising_ok inside first_bad wholes wind_row_at plane_point_at
 calm-judged = refl
 
 -- two faults at once, and the first is answered: a point's angle before radii that fall, and these before room that is short. The room stays
 abbrev falls : List ℤ
 falls = pos 701 ∷ pos 700 ∷ pos 400 ∷ pos 1000 ∷ []
 
-refused-first : makeOf (asked factorEntry (storm (pos 2757) (pos 2992)) closing falls (sites (pos 3600)) room) ≡ record { answer = notMade 13 3; room = room }
-unfolding makeOf firstOf makeChecks hurricaneOk pressuresOk windCountOk countOk windRowOk planePointOk risingOk inside firstBad wholes windRowAt planePointAt
+refused-first : make_of (asked factor_entry (storm (pos 2757) (pos 2992)) closing falls (sites (pos 3600)) room) ≡ record { answer = not_made 13 3; room = room }
+unfolding make_of first_of make_checks hurricane_ok pressures_ok wind_count_ok count_ok wind_row_ok plane_point_ok rising_ok inside first_bad wholes wind_row_at plane_point_at
 refused-first = refl
 
-refused-next : makeOf (asked factorEntry (storm (pos 2757) (pos 2992)) closing falls (sites (pos 3599)) []) ≡ record { answer = notMade 14 2; room = [] }
-unfolding makeOf firstOf makeChecks hurricaneOk pressuresOk windCountOk countOk windRowOk planePointOk risingOk inside firstBad wholes windRowAt planePointAt
+refused-next : make_of (asked factor_entry (storm (pos 2757) (pos 2992)) closing falls (sites (pos 3599)) []) ≡ record { answer = not_made 14 2; room = [] }
+unfolding make_of first_of make_checks hurricane_ok pressures_ok wind_count_ok count_ok wind_row_ok plane_point_ok rising_ok inside first_bad wholes wind_row_at plane_point_at
 refused-next = refl
 
-refused-last : makeOf (asked factorEntry (storm (pos 2757) (pos 2992)) closing winds (sites (pos 3599)) []) ≡ record { answer = notMade 8 0; room = [] }
-unfolding makeOf firstOf makeChecks hurricaneOk pressuresOk windCountOk countOk windRowOk planePointOk risingOk inside firstBad wholes windRowAt planePointAt
+refused-last : make_of (asked factor_entry (storm (pos 2757) (pos 2992)) closing winds (sites (pos 3599)) []) ≡ record { answer = not_made 8 0; room = [] }
+unfolding make_of first_of make_checks hurricane_ok pressures_ok wind_count_ok count_ok wind_row_ok plane_point_ok rising_ok inside first_bad wholes wind_row_at plane_point_at
 refused-last = refl

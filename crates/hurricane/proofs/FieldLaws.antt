@@ -11,9 +11,9 @@ use lib.Signed.{lt_z, ◌≤ℤ◌, ◌<ℤ◌, lt_z_yes, le_z_yes}
 use mir.Syntax.{w64}
 use mir.Val.{SFits}
 use Rattle.ranges.specs.Bounds.{Sized}
-use Rattle.ranges.specs.Division.{floorDiv}
+use Rattle.ranges.specs.Division.{floor_div}
 use Rattle.ranges.specs.Range.{lesser}
-use Rattle.ranges.specs.Root.{wholeRoot}
+use Rattle.ranges.specs.Root.{whole_root}
 use Rattle.ranges.proofs.Branches.{lt-true, lt-false}
 use Rattle.ranges.proofs.DivisionLaws.{floor-from, floor-to, floor-beside}
 use Rattle.ranges.proofs.Fits.{abs-most, sized-mul, sized-add, sized-sub, sized-fits}
@@ -23,8 +23,8 @@ use Rattle.records.specs.Groups.{at}
 use Rattle.records.proofs.LimitLaws.{Between}
 use Rattle.hurricane.specs.declared.WindRow.{WindRow}
 use Rattle.hurricane.specs.Bounds.{ApartIn, DropIn, WindsIn, TableIn, BetweenRows}
-use Rattle.hurricane.specs.Groups.{windCount, windRowAt}
-use Rattle.hurricane.specs.Field.{distanceOf, hundredthsOf, straight, windFrom, windOf}
+use Rattle.hurricane.specs.Groups.{wind_count, wind_row_at}
+use Rattle.hurricane.specs.Field.{distance_of, hundredths_of, straight, wind_from, wind_of}
 
 -- ---- the distance
 
@@ -59,9 +59,9 @@ module _ (x₀ y₀ x y : ℤ) (h : ApartIn x₀ y₀ x y) where
       let q : pos 0 ≤ℤ (b *ℤ b) = nn-sq b in
       zomega (a ∷ b ∷ []) (p & q) (search says depth 20) (omega arith)
 
-  pub distance-nn : pos 0 ≤ℤ distanceOf x₀ y₀ x y
-  unfolding distanceOf
-  distance-nn = le_z_yes (le→leb 0 (wholeRoot 1 (nat_abs ((x -ℤ x₀) *ℤ (x -ℤ x₀) +ℤ (y -ℤ y₀) *ℤ (y -ℤ y₀)))) zero-le)
+  pub distance-nn : pos 0 ≤ℤ distance_of x₀ y₀ x y
+  unfolding distance_of
+  distance-nn = le_z_yes (le→leb 0 (whole_root 1 (nat_abs ((x -ℤ x₀) *ℤ (x -ℤ x₀) +ℤ (y -ℤ y₀) *ℤ (y -ℤ y₀)))) zero-le)
 
 -- ---- R/r in hundredths
 
@@ -69,14 +69,14 @@ module _ (radius r : ℤ) (low : pos 1 ≤ℤ radius) (high : radius ≤ℤ pos 
   pub hundred-fits : SFits w64 (pos 100 *ℤ radius)
   hundred-fits = zomega (radius ∷ []) (low & high) (search says depth 20) (omega arith)
 
-  pub quotient-nn : pos 0 <ℤ r → pos 0 ≤ℤ floorDiv (pos 100 *ℤ radius) r
+  pub quotient-nn : pos 0 <ℤ r → pos 0 ≤ℤ floor_div (pos 100 *ℤ radius) r
   quotient-nn p = floor-from (pos 100 *ℤ radius) r (pos 0) p (zomega (radius ∷ r ∷ []) low (search says depth 20) (omega arith))
 
-  pub hundredths-near : r ≤ℤ pos 0 → hundredthsOf radius r ≡ pos 1000
-  unfolding hundredthsOf
+  pub hundredths-near : r ≤ℤ pos 0 → hundredths_of radius r ≡ pos 1000
+  unfolding hundredths_of
   hundredths-near h = go (lt_z (pos 0) r) refl
     where
-      go : (t : Bool) → lt_z (pos 0) r ≡ t → cond t (lesser (floorDiv (pos 100 *ℤ radius) r) (pos 1000)) (pos 1000) ≡ pos 1000
+      go : (t : Bool) → lt_z (pos 0) r ≡ t → cond t (lesser (floor_div (pos 100 *ℤ radius) r) (pos 1000)) (pos 1000) ≡ pos 1000
       go true e = absurd (zomega (r ∷ []) (h & lt-true (pos 0) r e) (search says depth 20) (omega arith))
       go false e = refl
 
@@ -88,27 +88,27 @@ module _ (radius r : ℤ) (low : pos 1 ≤ℤ radius) (high : radius ≤ℤ pos 
         go true e = refl
         go false e = absurd (zomega (r ∷ []) (p & lt-false (pos 0) r e) (search says depth 20) (omega arith))
 
-    pub hundredths-below : lt_z (floorDiv (pos 100 *ℤ radius) r) (pos 1000) ≡ true → hundredthsOf radius r ≡ floorDiv (pos 100 *ℤ radius) r
-    unfolding hundredthsOf lesser
+    pub hundredths-below : lt_z (floor_div (pos 100 *ℤ radius) r) (pos 1000) ≡ true → hundredths_of radius r ≡ floor_div (pos 100 *ℤ radius) r
+    unfolding hundredths_of lesser
     hundredths-below e = rw (above, e)
 
-    pub hundredths-above : lt_z (floorDiv (pos 100 *ℤ radius) r) (pos 1000) ≡ false → hundredthsOf radius r ≡ pos 1000
-    unfolding hundredthsOf lesser
+    pub hundredths-above : lt_z (floor_div (pos 100 *ℤ radius) r) (pos 1000) ≡ false → hundredths_of radius r ≡ pos 1000
+    unfolding hundredths_of lesser
     hundredths-above e = rw (above, e)
 
   -- a place of the table
-  pub hundredths-place : nat_abs (hundredthsOf radius r) < 1001
+  pub hundredths-place : nat_abs (hundredths_of radius r) < 1001
   hundredths-place = by_sign (le-or-gt r (pos 0))
     where
-      by_size : (p : pos 0 <ℤ r) (t : Bool) → lt_z (floorDiv (pos 100 *ℤ radius) r) (pos 1000) ≡ t → nat_abs (hundredthsOf radius r) < 1001
+      by_size : (p : pos 0 <ℤ r) (t : Bool) → lt_z (floor_div (pos 100 *ℤ radius) r) (pos 1000) ≡ t → nat_abs (hundredths_of radius r) < 1001
       by_size p true e =
-          let m = abs-most (floorDiv (pos 100 *ℤ radius) r) 1000 (quotient-nn p) (lt-le (lt-true (floorDiv (pos 100 *ℤ radius) r) (pos 1000) e)) in
+          let m = abs-most (floor_div (pos 100 *ℤ radius) r) 1000 (quotient-nn p) (lt-le (lt-true (floor_div (pos 100 *ℤ radius) r) (pos 1000) e)) in
           subst (λ (z : ℤ). nat_abs z < 1001) (sym (hundredths-below p e)) (omega arith)
       by_size p false e = subst (λ (z : ℤ). nat_abs z < 1001) (sym (hundredths-above p e)) (omega arith)
 
-      by_sign : (r ≤ℤ pos 0) ⊎ (pos 0 <ℤ r) → nat_abs (hundredthsOf radius r) < 1001
+      by_sign : (r ≤ℤ pos 0) ⊎ (pos 0 <ℤ r) → nat_abs (hundredths_of radius r) < 1001
       by_sign (inl h) = subst (λ (z : ℤ). nat_abs z < 1001) (sym (hundredths-near h)) (omega arith)
-      by_sign (inr p) = by_size p (lt_z (floorDiv (pos 100 *ℤ radius) r) (pos 1000)) refl
+      by_sign (inr p) = by_size p (lt_z (floor_div (pos 100 *ℤ radius) r) (pos 1000)) refl
 
 -- ---- the deficit
 
@@ -133,7 +133,7 @@ module _ (drop factor : ℤ) (d : Between (pos 0) (pos 300) drop) (f : Between (
       let b = product-in in
       zomega (n ∷ []) (b.from & b.to) (search says depth 20) (omega arith)
 
-  pub share_in : Between (pos 0) (pos 300) (floorDiv (drop *ℤ (pos 10000 -ℤ factor)) (pos 10000))
+  pub share_in : Between (pos 0) (pos 300) (floor_div (drop *ℤ (pos 10000 -ℤ factor)) (pos 10000))
   share_in =
       let n = drop *ℤ (pos 10000 -ℤ factor) in
       let b = product-in in
@@ -158,7 +158,7 @@ module _ (a b : WindRow) (r : ℤ) (h : BetweenRows a b r) where
   pub span_pos : pos 0 <ℤ (b.radius -ℤ a.radius)
   span_pos = let f = h.from in let t = h.to in zomega (a.radius ∷ b.radius ∷ r ∷ []) (f & t) (search says depth 20) (omega arith)
 
-  pub straight-is : a.wind +ℤ floorDiv ((b.wind -ℤ a.wind) *ℤ (r -ℤ a.radius)) (b.radius -ℤ a.radius) ≡ straight a b r
+  pub straight-is : a.wind +ℤ floor_div ((b.wind -ℤ a.wind) *ℤ (r -ℤ a.radius)) (b.radius -ℤ a.radius) ≡ straight a b r
   unfolding straight
   straight-is = floor-beside ((b.wind -ℤ a.wind) *ℤ (r -ℤ a.radius)) (b.radius -ℤ a.radius) a.wind span_pos
 
@@ -219,64 +219,64 @@ module _ (a b : WindRow) (r : ℤ) (h : BetweenRows a b r) where
 
 module _ (winds : List ℤ) (v : WindsIn winds) (r : ℤ) where
   -- the wind of a row is within its limits
-  row-wind : (i : ℕ) → i < windCount winds → Between (pos 0) (pos 2000) (windRowAt winds i).wind
+  row-wind : (i : ℕ) → i < wind_count winds → Between (pos 0) (pos 2000) (wind_row_at winds i).wind
   row-wind i h = record { from = (v.rows i h).wind-low; to = (v.rows i h).wind-high }
 
-  pub rows-between : (i : ℕ) → i + 1 < windCount winds → (windRowAt winds i).radius ≤ℤ r → r <ℤ (windRowAt winds (i + 1)).radius → BetweenRows (windRowAt winds i) (windRowAt winds (i + 1)) r
+  pub rows-between : (i : ℕ) → i + 1 < wind_count winds → (wind_row_at winds i).radius ≤ℤ r → r <ℤ (wind_row_at winds (i + 1)).radius → BetweenRows (wind_row_at winds i) (wind_row_at winds (i + 1)) r
   rows-between i h f t = record { first = v.rows i (omega arith); second = v.rows (i + 1) h; from = f; to = t }
 
-  from_in : (k i : ℕ) → i + k < windCount winds → (windRowAt winds i).radius ≤ℤ r → Between (pos 0) (pos 2000) (windFrom winds r k i)
-  unfolding windFrom
+  from_in : (k i : ℕ) → i + k < wind_count winds → (wind_row_at winds i).radius ≤ℤ r → Between (pos 0) (pos 2000) (wind_from winds r k i)
+  unfolding wind_from
   from_in zero i h f = row-wind i (omega arith)
-  from_in (suc k) i h f = go (lt_z r (windRowAt winds (i + 1)).radius) refl (from_in k (i + 1) (omega arith))
+  from_in (suc k) i h f = go (lt_z r (wind_row_at winds (i + 1)).radius) refl (from_in k (i + 1) (omega arith))
     where
-      go : (t : Bool) → lt_z r (windRowAt winds (i + 1)).radius ≡ t → ((windRowAt winds (i + 1)).radius ≤ℤ r → Between (pos 0) (pos 2000) (windFrom winds r k (i + 1))) →
-          Between (pos 0) (pos 2000) (cond t (straight (windRowAt winds i) (windRowAt winds (i + 1)) r) (windFrom winds r k (i + 1)))
-      go true e rest = straight-in (windRowAt winds i) (windRowAt winds (i + 1)) r (rows-between i (omega arith) f (lt-true r (windRowAt winds (i + 1)).radius e))
-      go false e rest = rest (lt-false r (windRowAt winds (i + 1)).radius e)
+      go : (t : Bool) → lt_z r (wind_row_at winds (i + 1)).radius ≡ t → ((wind_row_at winds (i + 1)).radius ≤ℤ r → Between (pos 0) (pos 2000) (wind_from winds r k (i + 1))) →
+          Between (pos 0) (pos 2000) (cond t (straight (wind_row_at winds i) (wind_row_at winds (i + 1)) r) (wind_from winds r k (i + 1)))
+      go true e rest = straight-in (wind_row_at winds i) (wind_row_at winds (i + 1)) r (rows-between i (omega arith) f (lt-true r (wind_row_at winds (i + 1)).radius e))
+      go false e rest = rest (lt-false r (wind_row_at winds (i + 1)).radius e)
 
-  pub wind-in : Between (pos 0) (pos 2000) (windOf winds r)
-  unfolding windOf
-  wind-in = go (lt_z r (windRowAt winds 0).radius) refl
+  pub wind-in : Between (pos 0) (pos 2000) (wind_of winds r)
+  unfolding wind_of
+  wind-in = go (lt_z r (wind_row_at winds 0).radius) refl
     where
-      go : (t : Bool) → lt_z r (windRowAt winds 0).radius ≡ t → Between (pos 0) (pos 2000) (cond t (windRowAt winds 0).wind (windFrom winds r (windCount winds - 1) 0))
+      go : (t : Bool) → lt_z r (wind_row_at winds 0).radius ≡ t → Between (pos 0) (pos 2000) (cond t (wind_row_at winds 0).wind (wind_from winds r (wind_count winds - 1) 0))
       go true e = row-wind 0 v.some
-      go false e = let s = v.some in from_in (windCount winds - 1) 0 (omega arith) (lt-false r (windRowAt winds 0).radius e)
+      go false e = let s = v.some in from_in (wind_count winds - 1) 0 (omega arith) (lt-false r (wind_row_at winds 0).radius e)
 
 -- what the loop keeps: row i is not beyond r, and the list that is left gives what the whole gives
 pub record WindInv (winds : List ℤ) (r : ℤ) (last i : ℕ) : Type 0 where
   pub reach : i ≤ last
-  pub from : (windRowAt winds i).radius ≤ℤ r
-  pub rest : windFrom winds r (last - i) i ≡ windOf winds r
+  pub from : (wind_row_at winds i).radius ≤ℤ r
+  pub rest : wind_from winds r (last - i) i ≡ wind_of winds r
 
 module _ (winds : List ℤ) (r : ℤ) (last : ℕ) where
-  pub inside-first : lt_z r (windRowAt winds 0).radius ≡ true → (windRowAt winds 0).wind ≡ windOf winds r
-  unfolding windOf
+  pub inside-first : lt_z r (wind_row_at winds 0).radius ≡ true → (wind_row_at winds 0).wind ≡ wind_of winds r
+  unfolding wind_of
   inside-first e = rw e
 
-  pub wind-start : last ≡ windCount winds - 1 → lt_z r (windRowAt winds 0).radius ≡ false → WindInv winds r last 0
-  unfolding windOf
+  pub wind-start : last ≡ wind_count winds - 1 → lt_z r (wind_row_at winds 0).radius ≡ false → WindInv winds r last 0
+  unfolding wind_of
   wind-start q e = record {
     reach = omega arith;
-    from = lt-false r (windRowAt winds 0).radius e;
-    rest = let z : last - 0 ≡ windCount winds - 1 = omega arith in rw (z, e);
+    from = lt-false r (wind_row_at winds 0).radius e;
+    rest = let z : last - 0 ≡ wind_count winds - 1 = omega arith in rw (z, e);
   }
 
   module _ (i : ℕ) (v : WindInv winds r last i) where
     one_more : i < last → last - i ≡ suc (last - (i + 1))
     one_more h = omega arith
 
-    pub wind-found : i < last → lt_z r (windRowAt winds (i + 1)).radius ≡ true → straight (windRowAt winds i) (windRowAt winds (i + 1)) r ≡ windOf winds r
-    unfolding windFrom
+    pub wind-found : i < last → lt_z r (wind_row_at winds (i + 1)).radius ≡ true → straight (wind_row_at winds i) (wind_row_at winds (i + 1)) r ≡ wind_of winds r
+    unfolding wind_from
     wind-found h e = rw (one_more h, e) at v.rest
 
-    pub wind-on : i < last → lt_z r (windRowAt winds (i + 1)).radius ≡ false → WindInv winds r last (i + 1)
-    unfolding windFrom
-    wind-on h e = record { reach = omega arith; from = lt-false r (windRowAt winds (i + 1)).radius e; rest = rw (one_more h, e) at v.rest }
+    pub wind-on : i < last → lt_z r (wind_row_at winds (i + 1)).radius ≡ false → WindInv winds r last (i + 1)
+    unfolding wind_from
+    wind-on h e = record { reach = omega arith; from = lt-false r (wind_row_at winds (i + 1)).radius e; rest = rw (one_more h, e) at v.rest }
 
-    pub wind-beyond : last ≤ i → (windRowAt winds last).wind ≡ windOf winds r
-    unfolding windFrom
+    pub wind-beyond : last ≤ i → (wind_row_at winds last).wind ≡ wind_of winds r
+    unfolding wind_from
     wind-beyond h =
         let z : last - i ≡ 0 = omega arith in
         let q : i ≡ last = omega (arith, v.reach) in
-        ap (λ (j : ℕ). (windRowAt winds j).wind) (sym q) ∙ (rw z at v.rest)
+        ap (λ (j : ℕ). (wind_row_at winds j).wind) (sym q) ∙ (rw z at v.rest)

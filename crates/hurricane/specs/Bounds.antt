@@ -5,7 +5,7 @@ use Rattle.records.specs.Groups.{at}
 use Rattle.hurricane.specs.declared.Hurricane.{Hurricane}
 use Rattle.hurricane.specs.declared.WindRow.{WindRow}
 use Rattle.hurricane.specs.declared.PlanePoint.{PlanePoint}
-use Rattle.hurricane.specs.Groups.{windCount, windRowAt, siteCount, planePointAt}
+use Rattle.hurricane.specs.Groups.{wind_count, wind_row_at, site_count, plane_point_at}
 
 -- of two points in the plane
 pub record ApartIn (x₀ y₀ x y : ℤ) : Type 0 where
@@ -39,12 +39,12 @@ pub record WindRowIn (w : WindRow) : Type 0 where
   pub wind-high : w.wind ≤ℤ pos 2000
 
 pub record WindsIn (winds : List ℤ) : Type 0 where
-  pub some : 1 ≤ windCount winds
-  pub rows : (i : ℕ) → i < windCount winds → WindRowIn (windRowAt winds i)
-  pub rising : (i : ℕ) → i + 1 < windCount winds → (windRowAt winds i).radius <ℤ (windRowAt winds (i + 1)).radius
+  pub some : 1 ≤ wind_count winds
+  pub rows : (i : ℕ) → i < wind_count winds → WindRowIn (wind_row_at winds i)
+  pub rising : (i : ℕ) → i + 1 < wind_count winds → (wind_row_at winds i).radius <ℤ (wind_row_at winds (i + 1)).radius
 
 abbrev pub SitesIn : List ℤ → Type 0
-SitesIn sites = (i : ℕ) → i < siteCount sites → PlanePointIn (planePointAt sites i)
+SitesIn sites = (i : ℕ) → i < site_count sites → PlanePointIn (plane_point_at sites i)
 
 -- a table of factors in ten-thousandths, m from 0 to 1,000
 pub record TableIn (table : List ℤ) : Type 0 where

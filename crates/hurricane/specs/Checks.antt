@@ -3,33 +3,33 @@ use Rattle.std.specs.Prelude.{Bool, ◌&&◌, ◌||◌, List, [], ◌∷◌, ℕ
 use Rattle.std.specs.Int.Signed.{lt_z}
 use Rattle.records.specs.declared.Check.{Check}
 use Rattle.records.specs.declared.Kind.TheVariants.{Lent, StormValue, WindRadii}
-use Rattle.records.specs.CheckOrder.{need, each, firstOf}
-use Rattle.records.specs.Limits.{countOk, mostPoints}
+use Rattle.records.specs.CheckOrder.{need, each, first_of}
+use Rattle.records.specs.Limits.{count_ok, most_points}
 use Rattle.records.specs.Refusals.{refusal}
 use Rattle.hurricane.specs.declared.Hurricane.{Hurricane}
-use Rattle.hurricane.specs.Groups.{windCount, windRowAt, siteCount, planePointAt}
-use Rattle.hurricane.specs.Limits.{hurricaneOk, windCountOk, windRowOk, planePointOk}
+use Rattle.hurricane.specs.Groups.{wind_count, wind_row_at, site_count, plane_point_at}
+use Rattle.hurricane.specs.Limits.{hurricane_ok, wind_count_ok, wind_row_ok, plane_point_ok}
 
-abbrev pub windRowsOk : List ℤ → ℕ → Bool
-windRowsOk winds i = windRowOk (windRowAt winds i)
+abbrev pub wind_rows_ok : List ℤ → ℕ → Bool
+wind_rows_ok winds i = wind_row_ok (wind_row_at winds i)
 
-abbrev pub sitesOk : List ℤ → ℕ → Bool
-sitesOk sites i = planePointOk (planePointAt sites i)
+abbrev pub sites_ok : List ℤ → ℕ → Bool
+sites_ok sites i = plane_point_ok (plane_point_at sites i)
 
 -- 14: "wind radii that do not rise", by the later row of a pair
-unfoldable pub risingOk : List ℤ → ℕ → Bool
-risingOk winds i = eqb i 0 || lt_z (windRowAt winds (i - 1)).radius (windRowAt winds i).radius
+unfoldable pub rising_ok : List ℤ → ℕ → Bool
+rising_ok winds i = eqb i 0 || lt_z (wind_row_at winds (i - 1)).radius (wind_row_at winds i).radius
 
 -- "For 13 the place is 0 for pressures, R, centre and counts, then the list's row, then the point; for 14 the row"; "room too short .. gets 8,
 -- place 0, last". Here for room of so many numbers
-unfoldable pub makeChecks : Hurricane → List ℤ → List ℤ → ℕ → List Check
-makeChecks h winds sites room =
-    need (hurricaneOk h && (windCountOk (windCount winds) && countOk mostPoints (siteCount sites))) (refusal StormValue 0)
-    ∷ each StormValue (windRowsOk winds) (windCount winds)
-    ∷ each StormValue (sitesOk sites) (siteCount sites)
-    ∷ each WindRadii (risingOk winds) (windCount winds)
-    ∷ need (leb (3 * siteCount sites) room) (refusal Lent 0)
+unfoldable pub make_checks : Hurricane → List ℤ → List ℤ → ℕ → List Check
+make_checks h winds sites room =
+    need (hurricane_ok h && (wind_count_ok (wind_count winds) && count_ok most_points (site_count sites))) (refusal StormValue 0)
+    ∷ each StormValue (wind_rows_ok winds) (wind_count winds)
+    ∷ each StormValue (sites_ok sites) (site_count sites)
+    ∷ each WindRadii (rising_ok winds) (wind_count winds)
+    ∷ need (leb (3 * site_count sites) room) (refusal Lent 0)
     ∷ []
 
-abbrev pub makeCheck : Hurricane → List ℤ → List ℤ → ℕ → Check
-makeCheck h winds sites room = firstOf (makeChecks h winds sites room)
+abbrev pub make_check : Hurricane → List ℤ → List ℤ → ℕ → Check
+make_check h winds sites room = first_of (make_checks h winds sites room)

@@ -5,15 +5,15 @@ use Rattle.hurricane.specs.declared.WindRow.{WindRow}
 use Rattle.hurricane.specs.declared.PlanePoint.{PlanePoint}
 
 -- a row of the list: radius, wind
-abbrev pub windCount : List ℤ → ℕ
-windCount l = wholes 2 (length l)
+abbrev pub wind_count : List ℤ → ℕ
+wind_count l = wholes 2 (length l)
 
-unfoldable pub windRowAt : List ℤ → ℕ → WindRow
-windRowAt l i = record { radius = at l (2 * i); wind = at l (2 * i + 1) }
+unfoldable pub wind_row_at : List ℤ → ℕ → WindRow
+wind_row_at l i = record { radius = at l (2 * i); wind = at l (2 * i + 1) }
 
 -- a point: x, y, angle
-abbrev pub siteCount : List ℤ → ℕ
-siteCount l = wholes 3 (length l)
+abbrev pub site_count : List ℤ → ℕ
+site_count l = wholes 3 (length l)
 
-unfoldable pub planePointAt : List ℤ → ℕ → PlanePoint
-planePointAt l i = record { x = at l (3 * i); y = at l (3 * i + 1); angle = at l (3 * i + 2) }
+unfoldable pub plane_point_at : List ℤ → ℕ → PlanePoint
+plane_point_at l i = record { x = at l (3 * i); y = at l (3 * i + 1); angle = at l (3 * i + 2) }

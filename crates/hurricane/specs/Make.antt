@@ -4,14 +4,14 @@ use Rattle.records.specs.declared.Check.{Check}
 use Rattle.records.specs.declared.Check.TheVariants.{Pass, Fail}
 use Rattle.records.specs.declared.Closing.{Closing}
 use Rattle.records.specs.declared.Point.{Point}
-use Rattle.records.specs.Groups.{ofPoint, groups, flat}
-use Rattle.records.specs.Refusals.{numberOf}
+use Rattle.records.specs.Groups.{of_point, groups, flat}
+use Rattle.records.specs.Refusals.{number_of}
 use Rattle.hurricane.specs.declared.Hurricane.{Hurricane}
 use Rattle.hurricane.specs.declared.Made.{Made}
 use Rattle.hurricane.specs.declared.Made.TheVariants as code
-use Rattle.hurricane.specs.Groups.{siteCount, planePointAt}
-use Rattle.hurricane.specs.Checks.{makeCheck}
-use Rattle.hurricane.specs.Field.{pointFor}
+use Rattle.hurricane.specs.Groups.{site_count, plane_point_at}
+use Rattle.hurricane.specs.Checks.{make_check}
+use Rattle.hurricane.specs.Field.{point_for}
 
 -- what a call is given. A new argument comes in here
 pub record Asked : Type 0 where
@@ -26,19 +26,19 @@ pub record Asked : Type 0 where
 abbrev pub asked : (ℕ → ℤ) → Hurricane → Closing → List ℤ → List ℤ → List ℤ → Asked
 asked factor hurricane closing winds sites room = record { factor = factor; hurricane = hurricane; closing = closing; winds = winds; sites = sites; room = room }
 
-abbrev pub checkOf : Asked → Check
-checkOf a = makeCheck a.hurricane a.winds a.sites (length a.room)
+abbrev pub check_of : Asked → Check
+check_of a = make_check a.hurricane a.winds a.sites (length a.room)
 
 -- ---- the answer and the room
 
 -- "seconds and tide passed on as given"; or the refusal's number and place
 pub data ToldMade : Type 0 where
   made : Closing → ToldMade
-  notMade : ℕ → ℕ → ToldMade
+  not_made : ℕ → ℕ → ToldMade
 
-abbrev pub toldMade : Made → ToldMade
-toldMade (code.Made closing) = made closing
-toldMade (code.Refused refusal) = notMade (numberOf refusal.kind) refusal.place
+abbrev pub told_made : Made → ToldMade
+told_made (code.Made closing) = made closing
+told_made (code.Refused refusal) = not_made (number_of refusal.kind) refusal.place
 
 -- all that a call leaves
 pub record LeftMade : Type 0 where
@@ -46,20 +46,20 @@ pub record LeftMade : Type 0 where
   pub room : List ℤ
 
 -- the points of the record, in the order of the sites
-abbrev pub pointMade : Asked → ℕ → Point
-pointMade a i = pointFor a.factor a.hurricane a.winds (planePointAt a.sites i)
+abbrev pub point_made : Asked → ℕ → Point
+point_made a i = point_for a.factor a.hurricane a.winds (plane_point_at a.sites i)
 
-abbrev pub madeNumbers : Asked → List ℤ
-madeNumbers a = flat ofPoint (groups (pointMade a) (siteCount a.sites))
+abbrev pub made_numbers : Asked → List ℤ
+made_numbers a = flat of_point (groups (point_made a) (site_count a.sites))
 
 -- "spare room stays as lent"
-abbrev pub afterCheck : Check → Asked → LeftMade
-afterCheck Pass a = record { answer = made a.closing; room = madeNumbers a ++ drop (3 * siteCount a.sites) a.room }
-afterCheck (Fail refusal) a = record { answer = notMade (numberOf refusal.kind) refusal.place; room = a.room }
+abbrev pub after_check : Check → Asked → LeftMade
+after_check Pass a = record { answer = made a.closing; room = made_numbers a ++ drop (3 * site_count a.sites) a.room }
+after_check (Fail refusal) a = record { answer = not_made (number_of refusal.kind) refusal.place; room = a.room }
 
-unfoldable pub makeOf : Asked → LeftMade
-makeOf a = afterCheck (checkOf a) a
+unfoldable pub make_of : Asked → LeftMade
+make_of a = after_check (check_of a) a
 
 -- what the code answers and leaves
-abbrev pub leftBy : Made → List ℤ → LeftMade
-leftBy x room = record { answer = toldMade x; room = room }
+abbrev pub left_by : Made → List ℤ → LeftMade
+left_by x room = record { answer = told_made x; room = room }

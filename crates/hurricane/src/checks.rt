@@ -1,10 +1,10 @@
 // Checks 13, 14 and 8 of a record that is to be made, in the order of document 02: the first that fails decides, and within it the first bad row or
 // point. All that is looked at is the caller's and may hold anything; nothing overflows on it and nothing past a slice is read.
 ghost use Rattle.std.specs.Prelude.{◌≡◌, ◌&&◌, ◌+◌, ◌*◌, ◌≤◌, ◌<◌, length};
-ghost use Rattle.records.specs.CheckOrder.{firstBad};
-ghost use Rattle.records.specs.Limits.{countOk, mostPoints};
-ghost use Rattle.hurricane.specs.Limits.{hurricaneOk, windCountOk};
-ghost use Rattle.hurricane.specs.Checks.{windRowsOk, sitesOk, risingOk, makeCheck};
+ghost use Rattle.records.specs.CheckOrder.{first_bad};
+ghost use Rattle.records.specs.Limits.{count_ok, most_points};
+ghost use Rattle.hurricane.specs.Limits.{hurricane_ok, wind_count_ok};
+ghost use Rattle.hurricane.specs.Checks.{wind_rows_ok, sites_ok, rising_ok, make_check};
 
 use super::groups::{plane_point_at, wind_row_at};
 use super::limits::{hurricane_ok, plane_point_ok, wind_count_ok, wind_row_ok};
@@ -16,7 +16,7 @@ use records::{Check, Kind, Point, Refusal};
 // Check 13, the rows of the list: the first of n that is bad, from 1; 0 where there is none.
 pub fn bad_wind_row(winds: &[i64], n: usize) -> usize
     requires { 2 * n ≤ length winds.now }
-    ensures { result ≡ firstBad (windRowsOk winds.now) n 0 }
+    ensures { result ≡ first_bad (wind_rows_ok winds.now) n 0 }
 {
     let mut i = 0;
     while i < n {
@@ -32,7 +32,7 @@ pub fn bad_wind_row(winds: &[i64], n: usize) -> usize
 // Check 13, the points.
 pub fn bad_site(sites: &[i64], n: usize) -> usize
     requires { 3 * n ≤ length sites.now }
-    ensures { result ≡ firstBad (sitesOk sites.now) n 0 }
+    ensures { result ≡ first_bad (sites_ok sites.now) n 0 }
 {
     let mut i = 0;
     while i < n {
@@ -48,7 +48,7 @@ pub fn bad_site(sites: &[i64], n: usize) -> usize
 // Whether row i has a greater radius than the row before it. The first row has none before it.
 pub fn rising_at(winds: &[i64], i: usize) -> bool
     requires { 2 * i + 1 < length winds.now }
-    ensures { result ≡ risingOk winds.now i }
+    ensures { result ≡ rising_ok winds.now i }
 {
     if i == 0 {
         return true;
@@ -61,7 +61,7 @@ pub fn rising_at(winds: &[i64], i: usize) -> bool
 // Check 14.
 pub fn bad_radius(winds: &[i64], n: usize) -> usize
     requires { 2 * n ≤ length winds.now }
-    ensures { result ≡ firstBad (risingOk winds.now) n 0 }
+    ensures { result ≡ first_bad (rising_ok winds.now) n 0 }
 {
     let mut i = 0;
     while i < n {
@@ -75,7 +75,7 @@ pub fn bad_radius(winds: &[i64], n: usize) -> usize
 
 // Check 13, place 0: pressures, R, centre and both counts.
 pub fn numbers_ok(h: Hurricane, rows: usize, points: usize) -> bool
-    ensures { result ≡ (hurricaneOk h && (windCountOk rows && countOk mostPoints points)) }
+    ensures { result ≡ (hurricane_ok h && (wind_count_ok rows && count_ok most_points points)) }
 {
     if !hurricane_ok(h) {
         return false;
@@ -88,7 +88,7 @@ pub fn numbers_ok(h: Hurricane, rows: usize, points: usize) -> bool
 
 // All of them, for room of so many numbers.
 pub fn check_make(h: Hurricane, winds: &[i64], sites: &[i64], room: usize) -> Check
-    ensures { result ≡ makeCheck h winds.now sites.now room }
+    ensures { result ≡ make_check h winds.now sites.now room }
 {
     let rows = whole_groups(WindRow::NUMBERS, winds.len());
     let points = whole_groups(PlanePoint::NUMBERS, sites.len());

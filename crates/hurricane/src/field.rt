@@ -3,7 +3,7 @@
 ghost use Rattle.std.specs.Prelude.{◌≡◌, ◌<◌, pos, nat_abs, ◌≤ℤ◌};
 ghost use Rattle.records.specs.Groups.{at};
 ghost use Rattle.hurricane.specs.Bounds.{ApartIn, DropIn, HurricaneIn, PlanePointIn, WindsIn, TableIn, BetweenRows};
-ghost use Rattle.hurricane.specs.Field.{distanceOf, hundredthsOf, deficitOf, straight, windOf, angleFor, pointFor};
+ghost use Rattle.hurricane.specs.Field.{distance_of, hundredths_of, deficit_of, straight, wind_of, angle_for, point_for};
 
 use super::groups::wind_row_at;
 use super::{Hurricane, PlanePoint, WindRow};
@@ -21,7 +21,7 @@ const HUNDREDTHS_MOST: i64 = 1_000;
 // The distance r of a point from the centre, in 0.1 mile.
 pub fn distance(x0: i64, y0: i64, x: i64, y: i64) -> i64
     requires { ApartIn x0 y0 x y }
-    ensures { result ≡ distanceOf x0 y0 x y }
+    ensures { result ≡ distance_of x0 y0 x y }
 {
     let across = x - x0;
     let along = y - y0;
@@ -31,7 +31,7 @@ pub fn distance(x0: i64, y0: i64, x: i64, y: i64) -> i64
 // R/r in hundredths, as a place of the table.
 pub fn hundredths(radius: i64, r: i64) -> usize
     requires { (pos 1 ≤ℤ radius) × ((radius ≤ℤ pos 2000) × (pos 0 ≤ℤ r)) }
-    ensures value { result ≡ nat_abs (hundredthsOf radius r) }
+    ensures value { result ≡ nat_abs (hundredths_of radius r) }
     ensures upper_bound { result < 1001 }
 {
     if r <= 0 {
@@ -47,7 +47,7 @@ pub fn hundredths(radius: i64, r: i64) -> usize
 // The deficit by the table's place m, in 0.01 inch of mercury.
 pub fn deficit(table: &[i64], central: i64, edge: i64, m: usize) -> i64
     requires { (TableIn table.now) × (DropIn central edge × (m < 1001)) }
-    ensures { result ≡ deficitOf (at table.now) central edge m }
+    ensures { result ≡ deficit_of (at table.now) central edge m }
 {
     let factor = table[m];
     floor_div((edge - central) * (WHOLE - factor), WHOLE)
@@ -68,7 +68,7 @@ pub fn wind_between(a: WindRow, b: WindRow, r: i64) -> i64
 // The wind at distance r by the list.
 pub fn wind_at(winds: &[i64], r: i64) -> i64
     requires { WindsIn winds.now }
-    ensures { result ≡ windOf winds.now r }
+    ensures { result ≡ wind_of winds.now r }
 {
     let last = whole_groups(WindRow::NUMBERS, winds.len()) - 1;
     let first = wind_row_at(winds, 0);
@@ -90,7 +90,7 @@ pub fn wind_at(winds: &[i64], r: i64) -> i64
 
 // The angle beside a wind: the one that was given, but 0 beside a calm, which check 18 asks for.
 pub fn angle_for(wind: i64, angle: i64) -> i64
-    ensures { result ≡ angleFor wind angle }
+    ensures { result ≡ angle_for wind angle }
 {
     if is_calm(wind) {
         return CALM_ANGLE;
@@ -101,7 +101,7 @@ pub fn angle_for(wind: i64, angle: i64) -> i64
 // What the record has at a point.
 pub fn point_for(table: &[i64], h: Hurricane, winds: &[i64], p: PlanePoint) -> Point
     requires { (TableIn table.now) × (HurricaneIn h × (WindsIn winds.now × PlanePointIn p)) }
-    ensures { result ≡ pointFor (at table.now) h winds.now p }
+    ensures { result ≡ point_for (at table.now) h winds.now p }
 {
     let r = distance(h.x, h.y, p.x, p.y);
     let m = hundredths(h.radius, r);

@@ -1,12 +1,12 @@
 // One row of the list of winds, one point of the plane, read from a slice of numbers.
 ghost use Rattle.std.specs.Prelude.{◌≡◌, ◌+◌, ◌*◌, ◌<◌, length};
-ghost use Rattle.hurricane.specs.Groups.{windRowAt, planePointAt};
+ghost use Rattle.hurricane.specs.Groups.{wind_row_at, plane_point_at};
 
 use super::{PlanePoint, WindRow};
 
 pub fn wind_row_at(winds: &[i64], i: usize) -> WindRow
     requires { 2 * i + 1 < length winds.now }
-    ensures { result ≡ windRowAt winds.now i }
+    ensures { result ≡ wind_row_at winds.now i }
 {
     let at = WindRow::NUMBERS * i;
     let radius = winds[at];
@@ -19,7 +19,7 @@ pub fn wind_row_at(winds: &[i64], i: usize) -> WindRow
 
 pub fn plane_point_at(sites: &[i64], i: usize) -> PlanePoint
     requires { 3 * i + 2 < length sites.now }
-    ensures { result ≡ planePointAt sites.now i }
+    ensures { result ≡ plane_point_at sites.now i }
 {
     let at = PlanePoint::NUMBERS * i;
     let x = sites[at];

@@ -1,7 +1,7 @@
 // Document 02's limits of a hurricane's numbers, by name, and the tests against them. Both ends belong to a limit. A wind's and an angle's are
 // those of a record. `specs/Limits.antt` has the same numbers for the definitions.
 ghost use Rattle.std.specs.Prelude.{◌≡◌};
-ghost use Rattle.hurricane.specs.Limits.{pressuresOk, hurricaneOk, windCountOk, windRowOk, planePointOk};
+ghost use Rattle.hurricane.specs.Limits.{pressures_ok, hurricane_ok, wind_count_ok, wind_row_ok, plane_point_ok};
 
 use super::{Hurricane, PlanePoint, WindRow};
 use records::limits::{ANGLE_HIGH, ANGLE_LOW, WIND_HIGH, WIND_LOW, inside};
@@ -33,7 +33,7 @@ pub const WIND_RADIUS_HIGH: i64 = 30_000;
 
 // The drop is formed only of pressures that passed, so that it fits.
 pub fn pressures_ok(central: i64, edge: i64) -> bool
-    ensures { result ≡ pressuresOk central edge }
+    ensures { result ≡ pressures_ok central edge }
 {
     if !inside(central, PRESSURE_LOW, PRESSURE_HIGH) {
         return false;
@@ -45,7 +45,7 @@ pub fn pressures_ok(central: i64, edge: i64) -> bool
 }
 
 pub fn hurricane_ok(h: Hurricane) -> bool
-    ensures { result ≡ hurricaneOk h }
+    ensures { result ≡ hurricane_ok h }
 {
     if !pressures_ok(h.central, h.edge) {
         return false;
@@ -60,7 +60,7 @@ pub fn hurricane_ok(h: Hurricane) -> bool
 }
 
 pub fn wind_count_ok(n: usize) -> bool
-    ensures { result ≡ windCountOk n }
+    ensures { result ≡ wind_count_ok n }
 {
     if n < WINDS_LEAST {
         return false;
@@ -69,7 +69,7 @@ pub fn wind_count_ok(n: usize) -> bool
 }
 
 pub fn wind_row_ok(row: WindRow) -> bool
-    ensures { result ≡ windRowOk row }
+    ensures { result ≡ wind_row_ok row }
 {
     if !inside(row.radius, WIND_RADIUS_LOW, WIND_RADIUS_HIGH) {
         return false;
@@ -78,7 +78,7 @@ pub fn wind_row_ok(row: WindRow) -> bool
 }
 
 pub fn plane_point_ok(p: PlanePoint) -> bool
-    ensures { result ≡ planePointOk p }
+    ensures { result ≡ plane_point_ok p }
 {
     if !inside(p.x, -PLANE, PLANE) {
         return false;

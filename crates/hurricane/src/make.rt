@@ -1,11 +1,11 @@
 // Making a storm record: checks, and only then the numbers of every point into the lent room.
 ghost use Rattle.std.specs.Prelude.{◌≡◌, ◌*◌, length};
-ghost use Rattle.records.specs.Groups.{at, ofPoint, groups, flat};
+ghost use Rattle.records.specs.Groups.{at, of_point, groups, flat};
 ghost use Rattle.hurricane.specs.Bounds.{HurricaneIn, WindsIn, SitesIn, TableIn};
-ghost use Rattle.hurricane.specs.Factor.{factorEntry};
-ghost use Rattle.hurricane.specs.Groups.{siteCount, planePointAt};
-ghost use Rattle.hurricane.specs.Field.{pointFor};
-ghost use Rattle.hurricane.specs.Make.{asked, makeOf, leftBy};
+ghost use Rattle.hurricane.specs.Factor.{factor_entry};
+ghost use Rattle.hurricane.specs.Groups.{site_count, plane_point_at};
+ghost use Rattle.hurricane.specs.Field.{point_for};
+ghost use Rattle.hurricane.specs.Make.{asked, make_of, left_by};
 
 use super::checks::check_make;
 use super::field::point_for;
@@ -17,8 +17,8 @@ use records::{Check, Closing, Point};
 
 // The points of the record, one after the other.
 pub fn fill(table: &[i64], h: Hurricane, winds: &[i64], sites: &[i64], out: &mut [i64])
-    requires { (TableIn table.now) × (HurricaneIn h × (WindsIn winds.now × (SitesIn sites.now × (length out.old ≡ 3 * siteCount sites.now)))) }
-    ensures { out.new ≡ flat ofPoint (groups (λ i. pointFor (at table.now) h winds.now (planePointAt sites.now i)) (siteCount sites.now)) }
+    requires { (TableIn table.now) × (HurricaneIn h × (WindsIn winds.now × (SitesIn sites.now × (length out.old ≡ 3 * site_count sites.now)))) }
+    ensures { out.new ≡ flat of_point (groups (λ i. point_for (at table.now) h winds.now (plane_point_at sites.now i)) (site_count sites.now)) }
 {
     let n = whole_groups(PlanePoint::NUMBERS, sites.len());
     let mut i = 0;
@@ -40,7 +40,7 @@ pub fn make_with(
     room: &mut [i64],
 ) -> Made
     requires { TableIn table.now }
-    ensures { leftBy result room.new ≡ makeOf (asked (at table.now) h closing winds.now sites.now room.old) }
+    ensures { left_by result room.new ≡ make_of (asked (at table.now) h closing winds.now sites.now room.old) }
 {
     let check = check_make(h, winds, sites, room.len());
     if let Check::Fail(refusal) = check {
@@ -59,7 +59,7 @@ pub fn make_record(
     sites: &[i64],
     room: &mut [i64],
 ) -> Made
-    ensures { leftBy result room.new ≡ makeOf (asked factorEntry h closing winds.now sites.now room.old) }
+    ensures { left_by result room.new ≡ make_of (asked factor_entry h closing winds.now sites.now room.old) }
 {
     let table = factor_table();
     make_with(&table, h, closing, winds, sites, room)

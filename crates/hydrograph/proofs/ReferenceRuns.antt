@@ -10,33 +10,33 @@ use lib.IntN.{ℤ, pos, negsuc, ◌+ℤ◌, ◌*ℤ◌}
 use Rattle.ranges.specs.declared.Range.{Range}
 use Rattle.ranges.specs.Fraction.{◌/F◌}
 use Rattle.ranges.specs.Range.{lesser, greater, nearest}
-use Rattle.ranges.specs.Quotient.{quotientLow, quotientHigh}
-use Rattle.ranges.specs.Damped.{dampedOf, dampedLeast, dampedMost, dampedLow, dampedHigh, dampedFloor, dampedCeil}
+use Rattle.ranges.specs.Quotient.{quotient_low, quotient_high}
+use Rattle.ranges.specs.Damped.{damped_of, damped_least, damped_most, damped_low, damped_high, damped_floor, damped_ceil}
 use Rattle.records.specs.declared.Check.{Check}
 use Rattle.records.specs.declared.Check.TheVariants.{Pass, Fail}
-use Rattle.records.specs.CheckOrder.{firstBad, firstOf}
-use Rattle.forcing.specs.Sine.{scaledSine, sineEntry}
-use Rattle.forcing.specs.Quadrant.{sineOf, cosineOf}
-use Rattle.forcing.specs.Stress.{stressOf, crossOf, onshoreOf}
-use Rattle.forcing.specs.Force.{forceOf}
-use Rattle.records.specs.Groups.{wholes, stationAt, putStation, pointAt, rowAt, groups, flat}
-use Rattle.records.specs.Limits.{inside, rangeInside, countOk, headOk, stationOk, secondsOk, pointOk, calmOk, rowOk}
-use Rattle.records.specs.Refusals.{numberOf}
-use Rattle.records.specs.Rows.{freshRow}
+use Rattle.records.specs.CheckOrder.{first_bad, first_of}
+use Rattle.forcing.specs.Sine.{scaled_sine, sine_entry}
+use Rattle.forcing.specs.Quadrant.{sine_of, cosine_of}
+use Rattle.forcing.specs.Stress.{stress_of, cross_of, onshore_of}
+use Rattle.forcing.specs.Force.{force_of}
+use Rattle.records.specs.Groups.{wholes, station_at, put_station, point_at, row_at, groups, flat}
+use Rattle.records.specs.Limits.{inside, range_inside, count_ok, head_ok, station_ok, seconds_ok, point_ok, calm_ok, row_ok}
+use Rattle.records.specs.Refusals.{number_of}
+use Rattle.records.specs.Rows.{fresh_row}
 use Rattle.records.specs.Shapes.{storm}
 use Rattle.segment.specs.declared.SegmentAnswer.{SegmentAnswer}
 use Rattle.segment.specs.declared.SegmentAnswer.TheVariants.{On, Stop}
-use Rattle.segment.specs.Segment.{depthOf, fluxOf, gainOf, nextSetup, segmentOf, shoreBase}
-use Rattle.march.specs.Checks.{spacingOk, traverseChecks, openOf, placesOk, lentChecks, timesOk, recordChecks, recordCheck, checksOf}
-use Rattle.march.specs.March.{marchBy, segmentAt}
-use Rattle.march.specs.Take.{takeOf}
-use Rattle.listing.specs.Decimal.{digitsOf, decimalOf, signedText}
-use Rattle.listing.specs.Lines.{valuesLine, refusedLine}
-use Rattle.reader.specs.Text.{more, digitAt, digits, worth, goodOf, signedValue, startAt, goodAt, valueAt, pastAt, closeOf}
-use Rattle.reader.specs.Lines.{repeated, keptWith, sameWith, valuesAt, linesAt, spells, namesAt}
-use Rattle.reader.specs.Storm.{stormStart, recordOf, nextAt, recordsBy, stormRest, stormOf}
-use Rattle.reader.specs.Traverse.{start, withValues, storedAt, withPoint, lineAt, countedBy, endAt, restBy, restAt, traverseOf}
-use Rattle.hydrograph.specs.Listing.{hydrographLines, listingOf}
+use Rattle.segment.specs.Segment.{depth_of, flux_of, gain_of, next_setup, segment_of, shore_base}
+use Rattle.march.specs.Checks.{spacing_ok, traverse_checks, open_of, places_ok, lent_checks, times_ok, record_checks, record_check, checks_of}
+use Rattle.march.specs.March.{march_by, segment_at}
+use Rattle.march.specs.Take.{take_of}
+use Rattle.listing.specs.Decimal.{digits_of, decimal_of, signed_text}
+use Rattle.listing.specs.Lines.{values_line, refused_line}
+use Rattle.reader.specs.Text.{more, digit_at, digits, worth, good_of, signed_value, start_at, good_at, value_at, past_at, close_of}
+use Rattle.reader.specs.Lines.{repeated, kept_with, same_with, values_at, lines_at, spells, names_at}
+use Rattle.reader.specs.Storm.{storm_start, record_of, next_at, records_by, storm_rest, storm_of}
+use Rattle.reader.specs.Traverse.{start, with_values, stored_at, with_point, line_at, counted_by, end_at, rest_by, rest_at, traverse_of}
+use Rattle.hydrograph.specs.Listing.{hydrograph_lines, listing_of}
 
 -- ---- the table
 
@@ -69,38 +69,38 @@ one z = record { low = z; high = z }
 
 -- "wind 1,000 at angle .. in all four places, Δt 1,800"
 abbrev force : ℤ → Value
-force angle = ranged (forceOf false (pos 1800) (crossOf (pos 1000) angle +ℤ crossOf (pos 1000) angle) (crossOf (pos 1000) angle +ℤ crossOf (pos 1000) angle))
+force angle = ranged (force_of false (pos 1800) (cross_of (pos 1000) angle +ℤ cross_of (pos 1000) angle) (cross_of (pos 1000) angle +ℤ cross_of (pos 1000) angle))
 
 -- "κ 25", Δt, v, F and δ
 abbrev flux : ℤ → Range → ℤ → ℤ → Value
-flux seconds v f δ = ranged (dampedOf (pos 25 *ℤ seconds) v (one f) (one δ))
+flux seconds v f δ = ranged (damped_of (pos 25 *ℤ seconds) v (one f) (one δ))
 
 -- "X 10, δ 5,000", s 5,000: v and Y
 abbrev gain : ℤ → ℤ → Value
 gain v onshore =
-    ranged (gainOf (record { length = pos 10; depths = pos 1000; sine = pos 5000; friction = pos 25 }) (record { seconds = pos 0; level = pos 0; deficits = pos 0; cross = pos 0; onshore = onshore }) (one v) (one (pos 5000)))
+    ranged (gain_of (record { length = pos 10; depths = pos 1000; sine = pos 5000; friction = pos 25 }) (record { seconds = pos 0; level = pos 0; deficits = pos 0; cross = pos 0; onshore = onshore }) (one v) (one (pos 5000)))
 
 -- the refusal of a still first record at the water depth 5·(sum of the depths) + level
-abbrev segmentNumber : SegmentAnswer → Value
-segmentNumber (On leg) = refusal 0
-segmentNumber (Stop r) = refusal (numberOf r.kind)
+abbrev segment_number : SegmentAnswer → Value
+segment_number (On leg) = refusal 0
+segment_number (Stop r) = refusal (number_of r.kind)
 
 abbrev still : ℤ → ℤ → Value
 still depths level =
-    segmentNumber (segmentOf 1 true (record { length = pos 10; depths = depths; sine = pos 5000; friction = pos 25 }) (record { seconds = pos 0; level = level; deficits = pos 0; cross = pos 0; onshore = pos 0 }) freshRow (one (pos 0)))
+    segment_number (segment_of 1 true (record { length = pos 10; depths = depths; sine = pos 5000; friction = pos 25 }) (record { seconds = pos 0; level = level; deficits = pos 0; cross = pos 0; onshore = pos 0 }) fresh_row (one (pos 0)))
 
 -- check 9 of a later record of so many seconds
-abbrev checkNumber : Check → Value
-checkNumber Pass = refusal 0
-checkNumber (Fail r) = refusal (numberOf r.kind)
+abbrev check_number : Check → Value
+check_number Pass = refusal 0
+check_number (Fail r) = refusal (number_of r.kind)
 
 abbrev lasting : ℤ → Value
-lasting seconds = checkNumber (recordCheck 0 (storm (record { seconds = seconds; tide = pos 0 }) []) (record { elapsed = pos 0; started = true }))
+lasting seconds = check_number (record_check 0 (storm (record { seconds = seconds; tide = pos 0 }) []) (record { elapsed = pos 0; started = true }))
 
 -- ---- the two texts of the listing, and the listing
 
-abbrev traverseText : List ℕ
-traverseText =
+abbrev traverse_text : List ℕ
+traverse_text =
     -- latitude friction initial
     (108 ∷ 97 ∷ 116 ∷ 105 ∷ 116 ∷ 117 ∷ 100 ∷ 101 ∷ 32 ∷ 102 ∷ 114 ∷ 105 ∷ 99 ∷ 116 ∷ 105 ∷ 111 ∷ 110 ∷ 32 ∷ 105 ∷ 110 ∷ 105 ∷ 116 ∷ 105 ∷ 97 ∷ 108 ∷ 10 ∷ [])
     -- 300 25 0
@@ -112,8 +112,8 @@ traverseText =
     -- 0 500
     ++ (48 ∷ 32 ∷ 53 ∷ 48 ∷ 48 ∷ 10 ∷ [])
 
-abbrev stormText : List ℕ
-stormText =
+abbrev storm_text : List ℕ
+storm_text =
     -- seconds tide wind angle deficit
     (115 ∷ 101 ∷ 99 ∷ 111 ∷ 110 ∷ 100 ∷ 115 ∷ 32 ∷ 116 ∷ 105 ∷ 100 ∷ 101 ∷ 32 ∷ 119 ∷ 105 ∷ 110 ∷ 100 ∷ 32 ∷ 97 ∷ 110 ∷ 103 ∷ 108 ∷ 101 ∷ 32 ∷ 100 ∷ 101 ∷ 102 ∷ 105 ∷ 99 ∷ 105 ∷ 116 ∷ 10 ∷ [])
     -- 0 0 1000 0 0
@@ -125,8 +125,8 @@ stormText =
     -- 1600 50 1000 0 0
     ++ (49 ∷ 54 ∷ 48 ∷ 48 ∷ 32 ∷ 53 ∷ 48 ∷ 32 ∷ 49 ∷ 48 ∷ 48 ∷ 48 ∷ 32 ∷ 48 ∷ 32 ∷ 48 ∷ 10 ∷ [])
 
-abbrev listingText : List ℕ
-listingText =
+abbrev listing_text : List ℕ
+listing_text =
     -- seconds low high
     (115 ∷ 101 ∷ 99 ∷ 111 ∷ 110 ∷ 100 ∷ 115 ∷ 32 ∷ 108 ∷ 111 ∷ 119 ∷ 32 ∷ 104 ∷ 105 ∷ 103 ∷ 104 ∷ 10 ∷ [])
     -- 0 2325 2326
@@ -136,16 +136,16 @@ listingText =
 
 -- ---- the runs
 
-abbrev pub referenceRuns : List ReferenceRun
-referenceRuns =
+abbrev pub reference_runs : List ReferenceRun
+reference_runs =
     -- "q: 160 gives 281,600; 161 gives 285,156; 1,000 gives 28,640,000"
-    gives (number (stressOf (pos 160))) (number (pos 281600))
-    ∷ gives (number (stressOf (pos 161))) (number (pos 285156))
-    ∷ gives (number (stressOf (pos 1000))) (number (pos 28640000))
+    gives (number (stress_of (pos 160))) (number (pos 281600))
+    ∷ gives (number (stress_of (pos 161))) (number (pos 285156))
+    ∷ gives (number (stress_of (pos 1000))) (number (pos 28640000))
     -- "Sine: 300 gives 5,000; 2,100 gives -5,000; cosine of 900 is 0"
-    ∷ gives (number (sineOf (pos 300))) (number (pos 5000))
-    ∷ gives (number (sineOf (pos 2100))) (number (negsuc 4999))
-    ∷ gives (number (cosineOf (pos 900))) (number (pos 0))
+    ∷ gives (number (sine_of (pos 300))) (number (pos 5000))
+    ∷ gives (number (sine_of (pos 2100))) (number (negsuc 4999))
+    ∷ gives (number (cosine_of (pos 900))) (number (pos 0))
     -- "Force, wind 1,000 at angle 900 ..: 11,089 to 11,090; at angle 2,700: -11,090 to -11,089"
     ∷ gives (force (pos 900)) (range (pos 11089) (pos 11090))
     ∷ gives (force (pos 2700)) (range (negsuc 11089) (negsuc 11088))
@@ -157,7 +157,7 @@ referenceRuns =
     ∷ gives (flux (pos 1600) (record { low = negsuc 999; high = pos 1000 }) (pos 100) (pos 100)) (range (negsuc 21) (pos 100))
     -- "Gain, X 10, δ 5,000: s 5,000, v 10,000, Y 0 gives 274 to 275; v 0 and wind 1,000 at angle 0 at both ends gives 2,325 to 2,326"
     ∷ gives (gain (pos 10000) (pos 0)) (range (pos 274) (pos 275))
-    ∷ gives (gain (pos 0) (onshoreOf (pos 1000) (pos 0) +ℤ onshoreOf (pos 1000) (pos 0))) (range (pos 2325) (pos 2326))
+    ∷ gives (gain (pos 0) (onshore_of (pos 1000) (pos 0) +ℤ onshore_of (pos 1000) (pos 0))) (range (pos 2325) (pos 2326))
     -- "δ 100 and 100,000 pass, 99 and 100,001 get 10"
     ∷ gives (still (pos 0) (pos 99)) (refusal 10)
     ∷ gives (still (pos 0) (pos 100)) (refusal 0)
@@ -167,14 +167,14 @@ referenceRuns =
     ∷ gives (lasting (pos 3600)) (refusal 0)
     ∷ gives (lasting (pos 3601)) (refusal 9)
     -- "The listing, by the program, from values .."
-    ∷ gives (bytes (listingOf traverseText stormText)) (bytes listingText)
+    ∷ gives (bytes (listing_of traverse_text storm_text)) (bytes listing_text)
     ∷ []
 
 -- ---- runs of our own, not the paper's: deficits that differ from point to point and from record to record, three points, tide and angle not nought.
 -- 57 for 114 or 114 for 57, another point's deficit in the shore height, or one end's deficit for both, each prints another listing
 
-abbrev ourTraverseText : List ℕ
-ourTraverseText =
+abbrev our_traverse_text : List ℕ
+our_traverse_text =
     -- latitude friction initial
     (108 ∷ 97 ∷ 116 ∷ 105 ∷ 116 ∷ 117 ∷ 100 ∷ 101 ∷ 32 ∷ 102 ∷ 114 ∷ 105 ∷ 99 ∷ 116 ∷ 105 ∷ 111 ∷ 110 ∷ 32 ∷ 105 ∷ 110 ∷ 105 ∷ 116 ∷ 105 ∷ 97 ∷ 108 ∷ 10 ∷ [])
     -- 285 30 40
@@ -188,8 +188,8 @@ ourTraverseText =
     -- 0 120
     ++ (48 ∷ 32 ∷ 49 ∷ 50 ∷ 48 ∷ 10 ∷ [])
 
-abbrev ourStormText : List ℕ
-ourStormText =
+abbrev our_storm_text : List ℕ
+our_storm_text =
     -- seconds tide wind angle deficit
     (115 ∷ 101 ∷ 99 ∷ 111 ∷ 110 ∷ 100 ∷ 115 ∷ 32 ∷ 116 ∷ 105 ∷ 100 ∷ 101 ∷ 32 ∷ 119 ∷ 105 ∷ 110 ∷ 100 ∷ 32 ∷ 97 ∷ 110 ∷ 103 ∷ 108 ∷ 101 ∷ 32 ∷ 100 ∷ 101 ∷ 102 ∷ 105 ∷ 99 ∷ 105 ∷ 116 ∷ 10 ∷ [])
     -- 0 30 620 250 20
@@ -211,8 +211,8 @@ ourStormText =
     -- 2700 60 640 3300 95
     ++ (50 ∷ 55 ∷ 48 ∷ 48 ∷ 32 ∷ 54 ∷ 48 ∷ 32 ∷ 54 ∷ 52 ∷ 48 ∷ 32 ∷ 51 ∷ 51 ∷ 48 ∷ 48 ∷ 32 ∷ 57 ∷ 53 ∷ 10 ∷ [])
 
-abbrev ourListingText : List ℕ
-ourListingText =
+abbrev our_listing_text : List ℕ
+our_listing_text =
     -- seconds low high
     (115 ∷ 101 ∷ 99 ∷ 111 ∷ 110 ∷ 100 ∷ 115 ∷ 32 ∷ 108 ∷ 111 ∷ 119 ∷ 32 ∷ 104 ∷ 105 ∷ 103 ∷ 104 ∷ 10 ∷ [])
     -- 0 22698 22702
@@ -223,28 +223,28 @@ ourListingText =
     ++ (52 ∷ 53 ∷ 48 ∷ 48 ∷ 32 ∷ 49 ∷ 55 ∷ 55 ∷ 50 ∷ 50 ∷ 32 ∷ 49 ∷ 55 ∷ 55 ∷ 50 ∷ 53 ∷ 10 ∷ [])
 
 -- the water depth between points of 35.0 and 12.0 ft at level -5 with deficits 110 and 150, setup 10,955 to 10,957
-abbrev ourDepth : Value
-ourDepth =
-    ranged (depthOf (record { length = pos 20; depths = pos 470; sine = pos 4772; friction = pos 30 }) (record { seconds = pos 0; level = negsuc 4; deficits = pos 260; cross = pos 0; onshore = pos 0 }) (record { low = pos 10955; high = pos 10957 }))
+abbrev our_depth : Value
+our_depth =
+    ranged (depth_of (record { length = pos 20; depths = pos 470; sine = pos 4772; friction = pos 30 }) (record { seconds = pos 0; level = negsuc 4; deficits = pos 260; cross = pos 0; onshore = pos 0 }) (record { low = pos 10955; high = pos 10957 }))
 
-abbrev pub ourRuns : List ReferenceRun
-ourRuns =
-    gives ourDepth (range (pos 2602) (pos 2603))
+abbrev pub our_runs : List ReferenceRun
+our_runs =
+    gives our_depth (range (pos 2602) (pos 2603))
     -- the shore height at level -5 without setup, deficit 150 at the shore
-    ∷ gives (number (shoreBase (negsuc 4) (pos 150))) (number (pos 16600))
-    ∷ gives (bytes (listingOf ourTraverseText ourStormText)) (bytes ourListingText)
+    ∷ gives (number (shore_base (negsuc 4) (pos 150))) (number (pos 16600))
+    ∷ gives (bytes (listing_of our_traverse_text our_storm_text)) (bytes our_listing_text)
     ∷ []
 
 -- ---- the facts
 
-all_runs : Agree referenceRuns × Agree ourRuns
-unfolding ◌/F◌ lesser greater nearest quotientLow quotientHigh dampedLeast dampedMost dampedLow dampedHigh dampedFloor dampedCeil scaledSine sineEntry sineOf cosineOf stressOf crossOf onshoreOf forceOf wholes stationAt putStation pointAt rowAt groups flat inside rangeInside countOk headOk stationOk secondsOk pointOk rowOk depthOf fluxOf gainOf nextSetup segmentOf shoreBase firstBad spacingOk firstOf traverseChecks openOf placesOk lentChecks timesOk recordChecks checksOf calmOk marchBy segmentAt takeOf digitsOf decimalOf signedText valuesLine refusedLine more digitAt digits worth goodOf signedValue startAt goodAt valueAt pastAt closeOf repeated keptWith sameWith valuesAt linesAt spells namesAt stormStart recordOf nextAt recordsBy stormRest stormOf start withValues storedAt withPoint lineAt countedBy endAt restBy restAt traverseOf hydrographLines listingOf
+all_runs : Agree reference_runs × Agree our_runs
+unfolding ◌/F◌ lesser greater nearest quotient_low quotient_high damped_least damped_most damped_low damped_high damped_floor damped_ceil scaled_sine sine_entry sine_of cosine_of stress_of cross_of onshore_of force_of wholes station_at put_station point_at row_at groups flat inside range_inside count_ok head_ok station_ok seconds_ok point_ok row_ok depth_of flux_of gain_of next_setup segment_of shore_base first_bad spacing_ok first_of traverse_checks open_of places_ok lent_checks times_ok record_checks checks_of calm_ok march_by segment_at take_of digits_of decimal_of signed_text values_line refused_line more digit_at digits worth good_of signed_value start_at good_at value_at past_at close_of repeated kept_with same_with values_at lines_at spells names_at storm_start record_of next_at records_by storm_rest storm_of start with_values stored_at with_point line_at counted_by end_at rest_by rest_at traverse_of hydrograph_lines listing_of
 all_runs = (refl, refl)
 
 -- the paper's table
-pub reference-runs : Agree referenceRuns
+pub reference-runs : Agree reference_runs
 reference-runs = all_runs.0
 
 -- our own
-pub our-runs : Agree ourRuns
+pub our-runs : Agree our_runs
 our-runs = all_runs.1

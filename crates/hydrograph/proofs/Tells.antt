@@ -11,15 +11,15 @@ use lib.IntN.{ℤ}
 use borrow.Author.Tests.{ltb-false, leb-true, leb-false, le-ltb, lt-leb, ne_eqb}
 use Rattle.records.specs.declared.Kind.TheVariants.{Names, Ended, Points}
 use Rattle.records.specs.Refusals.{refusal}
-use Rattle.records.specs.Limits.{mostPoints, countOk}
+use Rattle.records.specs.Limits.{most_points, count_ok}
 use Rattle.records.specs.Shapes.{Traverse, count}
-use Rattle.listing.specs.Lines.{recordLine}
+use Rattle.listing.specs.Lines.{record_line}
 use Rattle.reader.specs.declared.Lines.{Lines}
 use Rattle.reader.specs.declared.Lines.TheVariants.{Read, Refused}
 use Rattle.reader.specs.declared.storm.StartStep.TheVariants as start-step
 use Rattle.reader.specs.Text.{more}
-use Rattle.reader.specs.Lines.{Outcome, read, refused, found, Line, full, bad, valuesAt, linesRead, after, linesAt, namesAt, spells, holds}
-use Rattle.reader.specs.Storm.{recordOf, recordLines, Further, one, none, nextAt, stormNames, stormStart, stormBy, stormRest, stormFrom, stormOf, startStep, holdsRecord, seen, needs-more, recordStep, longestRecord}
+use Rattle.reader.specs.Lines.{Outcome, read, refused, found, Line, full, bad, values_at, lines_read, after, lines_at, names_at, spells, holds}
+use Rattle.reader.specs.Storm.{record_of, record_lines, Further, one, none, next_at, storm_names, storm_start, storm_by, storm_rest, storm_from, storm_of, start_step, holds_record, seen, needs-more, record_step, longest_record}
 use Rattle.reader.specs.Window.{Shows, moved}
 use Rattle.reader.proofs.StormLaws.{counts-in}
 use Rattle.reader.proofs.Ends.{Stays, start-stays, Read-on, next-on}
@@ -27,8 +27,8 @@ use Rattle.reader.proofs.Steps.{start-window, next-window, storm-once}
 use Rattle.march.specs.declared.State.{State}
 use Rattle.march.specs.Answers.{Told}
 use Rattle.march.specs.Answers as answers
-use Rattle.hydrograph.specs.Listing.{afterTaken, takenBy, hydrographLines, stormLines}
-use Rattle.hydrograph.specs.Turns.{Said, reads, says, ends, quiet, saidTaken, saidSeen, saidStart, startTurn, recordTurn, turnOf, linesFrom, saidThen, TurnTells}
+use Rattle.hydrograph.specs.Listing.{after_taken, taken_by, hydrograph_lines, storm_lines}
+use Rattle.hydrograph.specs.Turns.{Said, reads, says, ends, quiet, said_taken, said_seen, said_start, start_turn, record_turn, turn_of, lines_from, said_then, TurnTells}
 use Rattle.hydrograph.proofs.TurnLaws.{turn-start, turn-record}
 
 -- ---- a line that was read is counted, so reading has not to begin again
@@ -51,36 +51,36 @@ abbrev Counted : {A : Type 0} → Outcome A → Type 0
 Counted (read x at line) = 0 < line
 Counted (refused r) = Unit {0}
 
-lines-counted : (s : List ℕ) (width shared n i at line : ℕ) (kept : List ℤ) → 0 < line → CountedLines (linesAt s width shared n i at line kept).answer
-unfolding linesAt
+lines-counted : (s : List ℕ) (width shared n i at line : ℕ) (kept : List ℤ) → 0 < line → CountedLines (lines_at s width shared n i at line kept).answer
+unfolding lines_at
 lines-counted s width shared zero i at line kept h = h
 lines-counted s width shared (suc n) i at line kept h =
-    go (ltb at (length s)) (valuesAt s shared i width 0 at kept true) (λ a l. lines-counted s width shared n (i + 1) a (more line) l (more-pos line))
+    go (ltb at (length s)) (values_at s shared i width 0 at kept true) (λ a l. lines-counted s width shared n (i + 1) a (more line) l (more-pos line))
   where
-    go : (b : Bool) (x : Line) → ((a : ℕ) (l : List ℤ) → CountedLines (linesAt s width shared n (i + 1) a (more line) l).answer)
-        → CountedLines (cond b (after x (more line) (λ a l. linesAt s width shared n (i + 1) a (more line) l)) (linesRead (Refused (refusal Ended line)) kept)).answer
+    go : (b : Bool) (x : Line) → ((a : ℕ) (l : List ℤ) → CountedLines (lines_at s width shared n (i + 1) a (more line) l).answer)
+        → CountedLines (cond b (after x (more line) (λ a l. lines_at s width shared n (i + 1) a (more line) l)) (lines_read (Refused (refusal Ended line)) kept)).answer
     go true (full a l true) k = k a l
     go true (full a l false) k = tt
     go true (bad l) k = tt
     go false x k = tt
 
-next-counted : (s : List ℕ) (n at line : ℕ) → 0 < line → Counted (nextAt s n at line)
-unfolding nextAt
-next-counted s n at line h = go (countOk mostPoints n) (ltb at (length s)) (ltb 1 line) (recordLines s n at line).answer (lines-counted s 5 2 n 0 at line [] h)
+next-counted : (s : List ℕ) (n at line : ℕ) → 0 < line → Counted (next_at s n at line)
+unfolding next_at
+next-counted s n at line h = go (count_ok most_points n) (ltb at (length s)) (ltb 1 line) (record_lines s n at line).answer (lines-counted s 5 2 n 0 at line [] h)
   where
     go : (b c d : Bool) (x : Lines) → CountedLines x
-        → Counted (cond b (cond c (found x (one (recordOf (recordLines s n at line).kept))) (cond d (read none at line) (refused (refusal Ended line)))) (refused (refusal Points n)))
+        → Counted (cond b (cond c (found x (one (record_of (record_lines s n at line).kept))) (cond d (read none at line) (refused (refusal Ended line)))) (refused (refusal Points n)))
     go true true d (Read a) k = k
     go true true d (Refused r) k = tt
     go true false true x k = h
     go true false false x k = tt
     go false c d x k = tt
 
-start-counted : (s : List ℕ) → CountedLines (stormStart s)
-unfolding stormStart namesAt
-start-counted s = go (spells s 0 stormNames)
+start-counted : (s : List ℕ) → CountedLines (storm_start s)
+unfolding storm_start names_at
+start-counted s = go (spells s 0 storm_names)
   where
-    go : (b : Bool) → CountedLines (cond b (Read (record { at = 0 + length stormNames; line = more 0 })) (Refused (refusal Names (more 0))))
+    go : (b : Bool) → CountedLines (cond b (Read (record { at = 0 + length storm_names; line = more 0 })) (Refused (refusal Names (more 0))))
     go true = more-pos 0
     go false = tt
 
@@ -88,50 +88,50 @@ start-counted s = go (spells s 0 stormNames)
 
 module _ (s : List ℕ) (t : Traverse) where
   -- where some line was counted, they are those of the records from the place on
-  lines-on : (at line : ℕ) (st : State) (rows : List ℤ) → 0 < line → linesFrom s t at line st rows ≡ stormLines t st rows (stormRest s (count t) at line)
+  lines-on : (at line : ℕ) (st : State) (rows : List ℤ) → 0 < line → lines_from s t at line st rows ≡ storm_lines t st rows (storm_rest s (count t) at line)
   lines-on at line st rows l = rw (ne_eqb line 0 (omega arith))
 
   module _ (w : List ℕ) (o : ℕ) (last : Bool) (sh : Shows s w o last) (at : ℕ) (st : State) (rows : List ℤ) where
     start-then : (r : Lines) → o ≡ 0 → CountedLines r →
-        saidThen s t o at 0 st rows (saidStart (start-step.Answer r)) ≡ stormLines t st rows (stormFrom r (stormRest s (count t)))
-    unfolding hydrographLines
+        said_then s t o at 0 st rows (said_start (start-step.Answer r)) ≡ storm_lines t st rows (storm_from r (storm_rest s (count t)))
+    unfolding hydrograph_lines
     start-then (Read d) z k = let e : o + d.at ≡ d.at = omega arith in lines-on (o + d.at) d.line st rows k ∙ rw e
     start-then (Refused q) z k = refl
 
-    start-tells : o ≡ 0 → saidThen s t o at 0 st rows (startTurn w last) ≡ stormLines t st rows (stormOf s (count t))
-    unfolding startStep stormOf
+    start-tells : o ≡ 0 → said_then s t o at 0 st rows (start_turn w last) ≡ storm_lines t st rows (storm_of s (count t))
+    unfolding start_step storm_of
     start-tells z = go (holds (length w) last 0 32) refl
       where
         go : (b : Bool) → holds (length w) last 0 32 ≡ b →
-            saidThen s t o at 0 st rows (saidStart (cond b (start-step.Answer (stormStart w)) start-step.More)) ≡ stormLines t st rows (stormFrom (stormStart s) (stormRest s (count t)))
-        go true e = rw (start-window s w o last sh z e) (start-then (stormStart w) z (start-counted w))
+            said_then s t o at 0 st rows (said_start (cond b (start-step.Answer (storm_start w)) start-step.More)) ≡ storm_lines t st rows (storm_from (storm_start s) (storm_rest s (count t)))
+        go true e = rw (start-window s w o last sh z e) (start-then (storm_start w) z (start-counted w))
         go false e = refl
 
     taken_then : (told : Told) (line a l : ℕ) (st' : State) (rows' : List ℤ) → 0 < l →
-        saidThen s t o at line st rows (saidTaken told a l st' rows') ≡ afterTaken told st' rows' (λ x y. stormLines t x y (stormRest s (count t) (o + a) l))
-    taken_then (answers.accepted elapsed low high) line a l st' rows' k = ap (λ (x : List ℕ). recordLine elapsed low high ++ x) (lines-on (o + a) l st' rows' k)
+        said_then s t o at line st rows (said_taken told a l st' rows') ≡ after_taken told st' rows' (λ x y. storm_lines t x y (storm_rest s (count t) (o + a) l))
+    taken_then (answers.accepted elapsed low high) line a l st' rows' k = ap (λ (x : List ℕ). record_line elapsed low high ++ x) (lines-on (o + a) l st' rows' k)
     taken_then (answers.refused number place) line a l st' rows' k = refl
 
-    next-then : (line : ℕ) (r : Outcome Further) → Counted r → saidThen s t o at line st rows (saidSeen (seen r) t st rows) ≡ stormLines t st rows (stormBy (moved o r) (stormRest s (count t)))
-    unfolding hydrographLines
-    next-then line (read (one r) a l) k = taken_then (takenBy t r st rows).answer line a l (takenBy t r st rows).state (takenBy t r st rows).rows k
+    next-then : (line : ℕ) (r : Outcome Further) → Counted r → said_then s t o at line st rows (said_seen (seen r) t st rows) ≡ storm_lines t st rows (storm_by (moved o r) (storm_rest s (count t)))
+    unfolding hydrograph_lines
+    next-then line (read (one r) a l) k = taken_then (taken_by t r st rows).answer line a l (taken_by t r st rows).state (taken_by t r st rows).rows k
     next-then line (read none a l) k = refl
     next-then line (refused q) k = refl
 
-    record-tells : (line : ℕ) → o + at ≤ length s → 0 < line → saidThen s t o at line st rows (recordTurn t w last at line st rows) ≡ linesFrom s t (o + at) line st rows
-    unfolding recordStep
-    record-tells line h l = go (holdsRecord (length w) last (count t) at) refl
+    record-tells : (line : ℕ) → o + at ≤ length s → 0 < line → said_then s t o at line st rows (record_turn t w last at line st rows) ≡ lines_from s t (o + at) line st rows
+    unfolding record_step
+    record-tells line h l = go (holds_record (length w) last (count t) at) refl
       where
-        go : (b : Bool) → holdsRecord (length w) last (count t) at ≡ b →
-            saidThen s t o at line st rows (saidSeen (cond b (seen (nextAt w (count t) at line)) needs-more) t st rows) ≡ linesFrom s t (o + at) line st rows
+        go : (b : Bool) → holds_record (length w) last (count t) at ≡ b →
+            said_then s t o at line st rows (said_seen (cond b (seen (next_at w (count t) at line)) needs-more) t st rows) ≡ lines_from s t (o + at) line st rows
         go true e =
-            next-then line (nextAt w (count t) at line) (next-counted w (count t) at line l)
+            next-then line (next_at w (count t) at line) (next-counted w (count t) at line l)
             ∙ sym (lines-on (o + at) line st rows l ∙ rw (storm-once s (count t) (o + at) line h, next-window s w o last sh (count t) at line e))
         go false e = refl
 
 -- at any place of the text, be it one that the window does not reach
 pub turn_at : (s w : List ℕ) (t : Traverse) (o : ℕ) (last : Bool) → Shows s w o last → (at line : ℕ) (st : State) (rows : List ℤ) → o + at ≤ length s → (line ≡ 0 → o ≡ 0)
-    → saidThen s t o at line st rows (turnOf t w last at line st rows) ≡ linesFrom s t (o + at) line st rows
+    → said_then s t o at line st rows (turn_of t w last at line st rows) ≡ lines_from s t (o + at) line st rows
 turn_at s w t o last sh at zero st rows h z = rw (turn-start t w last at 0 st rows refl) (start-tells s t w o last sh at st rows (z refl))
 turn_at s w t o last sh at (suc line) st rows h z =
     rw (turn-record t w last at (suc line) st rows (λ e. omega arith)) (record-tells s t w o last sh at st rows (suc line) h (omega arith))
@@ -143,7 +143,7 @@ turn-tells s w t o last sh at line st rows h z = turn_at s w t o last sh at line
 
 -- more is asked for only where the window is not the last and ends within the 3,575 bytes that a record of 65 points can take; a record moves the place on
 abbrev pub Advances : ℕ → Bool → ℕ → ℕ → Said → Type 0
-Advances size last at line Said.more = holds size last at longestRecord ≡ false
+Advances size last at line Said.more = holds size last at longest_record ≡ false
 Advances size last at line (reads a l) = (line ≡ 0) × ((0 < l) × (a ≤ size))
 Advances size last at line (says bytes a l st rows) = (0 < line) × ((0 < l) × ((at < a) × (a ≤ size)))
 Advances size last at line (ends bytes) = Unit {0}
@@ -156,7 +156,7 @@ holds-fewer size true at need at' need' h e = e
 holds-fewer size false at need at' need' h e = lt-leb (at' + need') size (omega (arith, leb-false (at + need) size e))
 
 -- past the end there is no record
-next-within : (s : List ℕ) (n at line : ℕ) → Read-on (at + 1) (length s) (nextAt s n at line)
+next-within : (s : List ℕ) (n at line : ℕ) → Read-on (at + 1) (length s) (next_at s n at line)
 next-within s n at line = go (leb at (length s)) refl
   where
     past : (b c : Bool) → Read-on (at + 1) (length s) (cond b (cond c (read none at line) (refused (refusal Ended line))) (refused (refusal Points n)))
@@ -164,49 +164,49 @@ next-within s n at line = go (leb at (length s)) refl
     past true false = tt
     past false c = tt
 
-    go : (b : Bool) → leb at (length s) ≡ b → Read-on (at + 1) (length s) (nextAt s n at line)
+    go : (b : Bool) → leb at (length s) ≡ b → Read-on (at + 1) (length s) (next_at s n at line)
     go true e = next-on s n at line (leb-true at (length s) e)
-    go false e = unfold nextAt in rw (le-ltb at (length s) (omega (arith, leb-false at (length s) e))) (past (countOk mostPoints n) (ltb 1 line))
+    go false e = unfold next_at in rw (le-ltb at (length s) (omega (arith, leb-false at (length s) e))) (past (count_ok most_points n) (ltb 1 line))
 
 module _ (w : List ℕ) (last : Bool) (at : ℕ) where
-  start-on : (r : Lines) → CountedLines r → Stays (length w) r → Advances (length w) last at 0 (saidStart (start-step.Answer r))
+  start-on : (r : Lines) → CountedLines r → Stays (length w) r → Advances (length w) last at 0 (said_start (start-step.Answer r))
   start-on (Read d) k h = (refl, (k, h))
   start-on (Refused q) k h = tt
 
-  start-moves : Advances (length w) last at 0 (startTurn w last)
-  unfolding startStep
+  start-moves : Advances (length w) last at 0 (start_turn w last)
+  unfolding start_step
   start-moves = go (holds (length w) last 0 32) refl
     where
-      go : (b : Bool) → holds (length w) last 0 32 ≡ b → Advances (length w) last at 0 (saidStart (cond b (start-step.Answer (stormStart w)) start-step.More))
-      go true e = start-on (stormStart w) (start-counted w) (start-stays w)
-      go false e = holds-fewer (length w) last 0 32 at longestRecord (omega arith) e
+      go : (b : Bool) → holds (length w) last 0 32 ≡ b → Advances (length w) last at 0 (said_start (cond b (start-step.Answer (storm_start w)) start-step.More))
+      go true e = start-on (storm_start w) (start-counted w) (start-stays w)
+      go false e = holds-fewer (length w) last 0 32 at longest_record (omega arith) e
 
   module _ (t : Traverse) (line : ℕ) (st : State) (rows : List ℤ) (l : 0 < line) where
-    taken-on : (told : Told) (a k : ℕ) (st' : State) (rows' : List ℤ) → 0 < k → at < a → a ≤ length w → Advances (length w) last at line (saidTaken told a k st' rows')
+    taken-on : (told : Told) (a k : ℕ) (st' : State) (rows' : List ℤ) → 0 < k → at < a → a ≤ length w → Advances (length w) last at line (said_taken told a k st' rows')
     taken-on (answers.accepted elapsed low high) a k st' rows' c h i = (l, (c, (h, i)))
     taken-on (answers.refused number place) a k st' rows' c h i = tt
 
-    record-on : (r : Outcome Further) → Counted r → Read-on (at + 1) (length w) r → Advances (length w) last at line (saidSeen (seen r) t st rows)
-    record-on (read (one r) a k) c h = taken-on (takenBy t r st rows).answer a k (takenBy t r st rows).state (takenBy t r st rows).rows c (omega arith) h.1
+    record-on : (r : Outcome Further) → Counted r → Read-on (at + 1) (length w) r → Advances (length w) last at line (said_seen (seen r) t st rows)
+    record-on (read (one r) a k) c h = taken-on (taken_by t r st rows).answer a k (taken_by t r st rows).state (taken_by t r st rows).rows c (omega arith) h.1
     record-on (read none a k) c h = tt
     record-on (refused q) c h = tt
 
-    record-short : holdsRecord (length w) last (count t) at ≡ false → holds (length w) last at longestRecord ≡ false
-    unfolding holdsRecord
-    record-short e = go (countOk mostPoints (count t)) (counts-in mostPoints (count t)) e
+    record-short : holds_record (length w) last (count t) at ≡ false → holds (length w) last at longest_record ≡ false
+    unfolding holds_record
+    record-short e = go (count_ok most_points (count t)) (counts-in most_points (count t)) e
       where
-        go : (b : Bool) → (b ≡ true → (2 ≤ count t) × (count t ≤ 65)) → cond b (holds (length w) last at (count t * 55)) true ≡ false → holds (length w) last at longestRecord ≡ false
-        go true f e = let k = f refl in holds-fewer (length w) last at (count t * 55) at longestRecord (omega arith) e
+        go : (b : Bool) → (b ≡ true → (2 ≤ count t) × (count t ≤ 65)) → cond b (holds (length w) last at (count t * 55)) true ≡ false → holds (length w) last at longest_record ≡ false
+        go true f e = let k = f refl in holds-fewer (length w) last at (count t * 55) at longest_record (omega arith) e
         go false f e = let z : ◌≡◌ {A = ℕ} 0 1 = cc in absurd (omega arith)
 
-    record-moves : Advances (length w) last at line (recordTurn t w last at line st rows)
-    unfolding recordStep
-    record-moves = go (holdsRecord (length w) last (count t) at) refl
+    record-moves : Advances (length w) last at line (record_turn t w last at line st rows)
+    unfolding record_step
+    record-moves = go (holds_record (length w) last (count t) at) refl
       where
-        go : (b : Bool) → holdsRecord (length w) last (count t) at ≡ b → Advances (length w) last at line (saidSeen (cond b (seen (nextAt w (count t) at line)) needs-more) t st rows)
-        go true e = record-on (nextAt w (count t) at line) (next-counted w (count t) at line l) (next-within w (count t) at line)
+        go : (b : Bool) → holds_record (length w) last (count t) at ≡ b → Advances (length w) last at line (said_seen (cond b (seen (next_at w (count t) at line)) needs-more) t st rows)
+        go true e = record-on (next_at w (count t) at line) (next-counted w (count t) at line l) (next-within w (count t) at line)
         go false e = record-short e
 
-pub turn-advances : (w : List ℕ) (last : Bool) (t : Traverse) (at line : ℕ) (st : State) (rows : List ℤ) → Advances (length w) last at line (turnOf t w last at line st rows)
+pub turn-advances : (w : List ℕ) (last : Bool) (t : Traverse) (at line : ℕ) (st : State) (rows : List ℤ) → Advances (length w) last at line (turn_of t w last at line st rows)
 turn-advances w last t at zero st rows = rw (turn-start t w last at 0 st rows refl) (start-moves w last at)
 turn-advances w last t at (suc line) st rows = rw (turn-record t w last at (suc line) st rows (λ e. omega arith)) (record-moves w last at t (suc line) st rows (omega arith))

@@ -5,12 +5,12 @@
 
 ghost use Rattle.std.specs.Prelude.{◌≡◌, [], ◌+◌, ◌≤◌, length, leb};
 ghost use Rattle.records.specs.Shapes.{traverse, count};
-ghost use Rattle.listing.specs.Lines.{namesLine, recordLine};
+ghost use Rattle.listing.specs.Lines.{names_line, record_line};
 ghost use Rattle.listing.specs.Put.{written};
-ghost use Rattle.hydrograph.specs.Listing.{refusalLine};
-ghost use Rattle.reader.specs.Storm.{recordSize, recordIn};
+ghost use Rattle.hydrograph.specs.Listing.{refusal_line};
+ghost use Rattle.reader.specs.Storm.{record_size, record_in};
 ghost use Rattle.hydrograph.specs.declared.Turn.TheVariants as turn;
-ghost use Rattle.hydrograph.specs.Turns.{takenSaid, startTurn, recordHeard, turnHeard, lineRoom, leftTurn, printed, turnLeft, freshRun, beginOf};
+ghost use Rattle.hydrograph.specs.Turns.{taken_said, start_turn, record_heard, turn_heard, line_room, left_turn, printed, turn_left, fresh_run, begin_of};
 
 use listing::Put;
 use march::{Answer, Call, State};
@@ -46,7 +46,7 @@ const LINE: usize = 66;
 
 // Whether a buffer of this size has room for a line behind so many bytes.
 fn has_line_room(size: usize, used: usize) -> bool
-    ensures { result ≡ leb (used + lineRoom) size }
+    ensures { result ≡ leb (used + line_room) size }
 {
     if size < LINE {
         return false;
@@ -56,9 +56,9 @@ fn has_line_room(size: usize, used: usize) -> bool
 
 // The names line of the listing.
 fn names(run: Run, out: &mut [u8], used: usize) -> Turned
-    requires { used + lineRoom ≤ length out.old }
-    ensures value { result ≡ record { turn = turn.Line (used + length namesLine); run = run } }
-    ensures out_after { out.new ≡ written namesLine used out.old }
+    requires { used + line_room ≤ length out.old }
+    ensures value { result ≡ record { turn = turn.Line (used + length names_line); run = run } }
+    ensures out_after { out.new ≡ written names_line used out.old }
 {
     match listing::put_names(out, used) {
         Put::Next(k) => Turned {
@@ -75,9 +75,9 @@ fn names(run: Run, out: &mut [u8], used: usize) -> Turned
 
 // A refusal is the last line.
 fn refuse(run: Run, out: &mut [u8], used: usize, refusal: Refusal) -> Turned
-    requires { used + lineRoom ≤ length out.old }
-    ensures value { result ≡ record { turn = turn.End (used + length (refusalLine refusal)); run = run } }
-    ensures out_after { out.new ≡ written (refusalLine refusal) used out.old }
+    requires { used + line_room ≤ length out.old }
+    ensures value { result ≡ record { turn = turn.End (used + length (refusal_line refusal)); run = run } }
+    ensures out_after { out.new ≡ written (refusal_line refusal) used out.old }
 {
     let place = refusal.place;
     match listing::put_refused(out, used, refusal.number(), place as u64) {
@@ -95,9 +95,9 @@ fn refuse(run: Run, out: &mut [u8], used: usize, refusal: Refusal) -> Turned
 
 // A record's line, and on with the later run.
 fn accept(later: Run, out: &mut [u8], used: usize, elapsed: i64, low: i64, high: i64) -> Turned
-    requires { used + lineRoom ≤ length out.old }
-    ensures value { result ≡ record { turn = turn.Line (used + length (recordLine elapsed low high)); run = later } }
-    ensures out_after { out.new ≡ written (recordLine elapsed low high) used out.old }
+    requires { used + line_room ≤ length out.old }
+    ensures value { result ≡ record { turn = turn.Line (used + length (record_line elapsed low high)); run = later } }
+    ensures out_after { out.new ≡ written (record_line elapsed low high) used out.old }
 {
     match listing::put_record(out, used, elapsed, low, high) {
         Put::Next(k) => Turned {
@@ -123,8 +123,8 @@ fn taken(
     out: &mut [u8],
     used: usize,
 ) -> Turned
-    requires { (used + lineRoom ≤ length out.old) × (recordSize (count (traverse head points.now)) ≤ length numbers.now) }
-    ensures { leftTurn result numbers.now rows.new out.new ≡ printed (takenSaid (traverse head points.now) (recordIn (count (traverse head points.now)) numbers.now) c.at c.line run.state rows.old) run numbers.now rows.old out.old used }
+    requires { (used + line_room ≤ length out.old) × (record_size (count (traverse head points.now)) ≤ length numbers.now) }
+    ensures { left_turn result numbers.now rows.new out.new ≡ printed (taken_said (traverse head points.now) (record_in (count (traverse head points.now)) numbers.now) c.at c.line run.state rows.old) run numbers.now rows.old out.old used }
 {
     let n = whole_groups(Station::NUMBERS, points.len());
     let end = Closing::NUMBERS + Point::NUMBERS * n;
@@ -153,8 +153,8 @@ fn taken(
 
 // The names line of the storm, which prints nothing.
 fn start_turn(run: Run, w: &[u8], last: bool, out: &mut [u8], used: usize) -> Turned
-    requires { used + lineRoom ≤ length out.old }
-    ensures { leftTurn result [] [] out.new ≡ printed (startTurn w.now last) run [] [] out.old used }
+    requires { used + line_room ≤ length out.old }
+    ensures { left_turn result [] [] out.new ≡ printed (start_turn w.now last) run [] [] out.old used }
 {
     match reader::storm_start_step(w, last) {
         StartStep::More => Turned {
@@ -186,8 +186,8 @@ fn record_turn(
     out: &mut [u8],
     used: usize,
 ) -> Turned
-    requires { used + lineRoom ≤ length out.old }
-    ensures { leftTurn result numbers.new rows.new out.new ≡ printed (recordHeard (traverse head points.now) w.now last run.cursor.at run.cursor.line run.state rows.old numbers.old).said run (recordHeard (traverse head points.now) w.now last run.cursor.at run.cursor.line run.state rows.old numbers.old).numbers rows.old out.old used }
+    requires { used + line_room ≤ length out.old }
+    ensures { left_turn result numbers.new rows.new out.new ≡ printed (record_heard (traverse head points.now) w.now last run.cursor.at run.cursor.line run.state rows.old numbers.old).said run (record_heard (traverse head points.now) w.now last run.cursor.at run.cursor.line run.state rows.old numbers.old).numbers rows.old out.old used }
 {
     let cursor = run.cursor;
     let n = whole_groups(Station::NUMBERS, points.len());
@@ -221,7 +221,7 @@ pub fn storm_turn(
     out: &mut [u8],
     used: usize,
 ) -> Turned
-    ensures { leftTurn result numbers.new rows.new out.new ≡ turnLeft (turnHeard (traverse head points.now) w.now last run.cursor.at run.cursor.line run.state rows.old numbers.old) run numbers.old rows.old out.old used }
+    ensures { left_turn result numbers.new rows.new out.new ≡ turn_left (turn_heard (traverse head points.now) w.now last run.cursor.at run.cursor.line run.state rows.old numbers.old) run numbers.old rows.old out.old used }
 {
     if !has_line_room(out.len(), used) {
         return Turned {
@@ -238,7 +238,7 @@ pub fn storm_turn(
 
 // Opens a traverse that was read: the names line and a fresh run, or the refusal. Open to callers: any traverse whatever.
 pub fn begin(head: Head, points: &[i64], out: &mut [u8], used: usize) -> Turned
-    ensures { leftTurn result [] [] out.new ≡ turnLeft (record { said = beginOf (traverse head points.now) []; numbers = [] }) freshRun [] [] out.old used }
+    ensures { left_turn result [] [] out.new ≡ turn_left (record { said = begin_of (traverse head points.now) []; numbers = [] }) fresh_run [] [] out.old used }
 {
     let opened = march::open_traverse(head, points);
     let check = opened.check;

@@ -9,8 +9,8 @@ use lib.Dec.{eqb, leb}
 use lib.ListN.{length, take, drop, take-append-drop}
 use lib.IntN.{ℤ, pos}
 use Rattle.records.specs.declared.Refusal.{Refusal}
-use Rattle.records.specs.Refusals.{numberOf, refusal}
-use Rattle.records.specs.Limits.{mostPoints}
+use Rattle.records.specs.Refusals.{number_of, refusal}
+use Rattle.records.specs.Limits.{most_points}
 use Rattle.records.specs.Shapes.{Traverse}
 use Rattle.records.specs.declared.Check.TheVariants.{Pass, Fail}
 use Rattle.march.specs.declared.Call.{Call}
@@ -19,17 +19,17 @@ use Rattle.march.specs.declared.Taken.{Taken}
 use Rattle.march.specs.declared.Answer.TheVariants.{Accepted, Refused}
 use Rattle.march.specs.Answers.{refused}
 use Rattle.march.specs.Given.{Given, given}
-use Rattle.march.specs.Checks.{openOf, openedBy}
-use Rattle.march.specs.Take.{takeOf}
+use Rattle.march.specs.Checks.{open_of, opened_by}
+use Rattle.march.specs.Take.{take_of}
 use Rattle.march.specs.Take as march
 use Rattle.march.proofs.TakeLaws.{refused-rows}
-use Rattle.lent.specs.Numbers.{stateNumbers, answerNumbers, refusedAnswer, buffersOk, wrongBuffer}
-use Rattle.lent.specs.Calls.{leftOpen, openWith, rowsSize, leftNumbers, numbersLeft}
+use Rattle.lent.specs.Numbers.{state_numbers, answer_numbers, refused_answer, buffers_ok, wrong_buffer}
+use Rattle.lent.specs.Calls.{left_open, open_with, rows_size, left_numbers, numbers_left}
 
 -- ---- lengths
 
-pub buffers : (s a : ℕ) → buffersOk s a ≡ true → (s ≡ 2) × (a ≡ 3)
-unfolding buffersOk
+pub buffers : (s a : ℕ) → buffers_ok s a ≡ true → (s ≡ 2) × (a ≡ 3)
+unfolding buffers_ok
 buffers s a e = by (eqb s 2) (eqb a 3) refl refl e
   where
     never : false ≡ true → ⊥
@@ -40,16 +40,16 @@ buffers s a e = by (eqb s 2) (eqb a 3) refl refl e
     by true false p q e = absurd (never e)
     by false u p q e = absurd (never e)
 
-pub size_few : (n len : ℕ) → n ≤ 64 → 3 * n ≤ len → rowsSize n len ≡ 3 * n
-unfolding rowsSize
+pub size_few : (n len : ℕ) → n ≤ 64 → 3 * n ≤ len → rows_size n len ≡ 3 * n
+unfolding rows_size
 size_few n len h k = rw (le-leb n 64 h, le-leb (3 * n) len k)
 
-pub size-many : (n len : ℕ) → 64 < n → rowsSize n len ≡ 0
-unfolding rowsSize
+pub size-many : (n len : ℕ) → 64 < n → rows_size n len ≡ 0
+unfolding rows_size
 size-many n len h = rw (lt-leb n 64 h)
 
-pub size_fits : (n len : ℕ) → rowsSize n len ≤ len
-unfolding rowsSize
+pub size_fits : (n len : ℕ) → rows_size n len ≤ len
+unfolding rows_size
 size_fits n len = by (leb n 64) (leb (3 * n) len) refl
   where
     by : (t u : Bool) → leb (3 * n) len ≡ u → cond (t && u) (3 * n) 0 ≤ len
@@ -60,37 +60,37 @@ size_fits n len = by (leb n 64) (leb (3 * n) len) refl
 -- ---- opening a traverse
 
 module _ (t : Traverse) (state answer : List ℤ) where
-  pub open-wrong : buffersOk (length state) (length answer) ≡ false → leftOpen wrongBuffer state answer ≡ openWith t state answer
+  pub open-wrong : buffers_ok (length state) (length answer) ≡ false → left_open wrong_buffer state answer ≡ open_with t state answer
   open-wrong b = rw b
 
-  module _ (b : buffersOk (length state) (length answer) ≡ true) (o : Opened) (h : openedBy o ≡ openOf mostPoints t) where
-    pub open-refused : (number : ℕ) (answer' : List ℤ) (refusal : Refusal) → o.check ≡ Fail refusal → number ≡ numberOf refusal.kind →
-        answer' ≡ refusedAnswer refusal.place → leftOpen number state answer' ≡ openWith t state answer
+  module _ (b : buffers_ok (length state) (length answer) ≡ true) (o : Opened) (h : opened_by o ≡ open_of most_points t) where
+    pub open-refused : (number : ℕ) (answer' : List ℤ) (refusal : Refusal) → o.check ≡ Fail refusal → number ≡ number_of refusal.kind →
+        answer' ≡ refused_answer refusal.place → left_open number state answer' ≡ open_with t state answer
     open-refused number answer' refusal c m a = rw (b, ← h, c, m, a)
 
-    pub open-accepted : (state' answer' : List ℤ) → o.check ≡ Pass → state' ≡ stateNumbers o.state →
-        answer' ≡ answerNumbers (pos 0) (pos 0) (pos 0) → leftOpen 0 state' answer' ≡ openWith t state answer
+    pub open-accepted : (state' answer' : List ℤ) → o.check ≡ Pass → state' ≡ state_numbers o.state →
+        answer' ≡ answer_numbers (pos 0) (pos 0) (pos 0) → left_open 0 state' answer' ≡ open_with t state answer
     open-accepted state' answer' c s a = rw (b, ← h, c, s, a)
 
 -- ---- taking a record, whose rows are the first `size` numbers
 
 module _ (call : Call) (points storm : List ℤ) (size : ℕ) (state numbers setup answer : List ℤ) where
-  pub take-wrong : buffersOk (length state) (length answer) ≡ false → leftNumbers wrongBuffer state numbers setup answer ≡ numbersLeft call points storm size state numbers setup answer
+  pub take-wrong : buffers_ok (length state) (length answer) ≡ false → left_numbers wrong_buffer state numbers setup answer ≡ numbers_left call points storm size state numbers setup answer
   take-wrong b = rw b
 
-  module _ (b : buffersOk (length state) (length answer) ≡ true) (x : Taken) (rows' setup' : List ℤ)
-      (h : march.left x rows' setup' ≡ takeOf (given mostPoints call points storm (take size numbers) setup)) where
+  module _ (b : buffers_ok (length state) (length answer) ≡ true) (x : Taken) (rows' setup' : List ℤ)
+      (h : march.left x rows' setup' ≡ take_of (given most_points call points storm (take size numbers) setup)) where
     abbrev g : Given
-    g = given mostPoints call points storm (take size numbers) setup
+    g = given most_points call points storm (take size numbers) setup
 
     -- refused: the rows, and so the numbers, are as they were
-    pub take-refused : (number : ℕ) (numbers' answer' : List ℤ) (refusal : Refusal) → x.answer ≡ Refused refusal → number ≡ numberOf refusal.kind → answer' ≡ refusedAnswer refusal.place →
-        numbers' ≡ rows' ++ drop size numbers → leftNumbers number state numbers' setup' answer' ≡ numbersLeft call points storm size state numbers setup answer
+    pub take-refused : (number : ℕ) (numbers' answer' : List ℤ) (refusal : Refusal) → x.answer ≡ Refused refusal → number ≡ number_of refusal.kind → answer' ≡ refused_answer refusal.place →
+        numbers' ≡ rows' ++ drop size numbers → left_numbers number state numbers' setup' answer' ≡ numbers_left call points storm size state numbers setup answer
     take-refused number numbers' answer' refusal c m a e =
-        let q : (takeOf g).answer ≡ refused (numberOf refusal.kind) refusal.place = sym (ap (λ (z : march.Left). z.answer) h) ∙ rw c in
+        let q : (take_of g).answer ≡ refused (number_of refusal.kind) refusal.place = sym (ap (λ (z : march.Left). z.answer) h) ∙ rw c in
         let same : numbers' ≡ numbers = e ∙ ap (λ (z : List ℤ). z ++ drop size numbers) (ap (λ (z : march.Left). z.rows) h ∙ refused-rows g _ _ q) ∙ take-append-drop size numbers in
         rw (b, ← h, c, m, a, same)
 
-    pub take-accepted : (numbers' state' answer' : List ℤ) (elapsed low high : ℤ) → x.answer ≡ Accepted elapsed low high → state' ≡ stateNumbers x.state → answer' ≡ answerNumbers (pos 0) low high →
-        numbers' ≡ rows' ++ drop size numbers → leftNumbers 0 state' numbers' setup' answer' ≡ numbersLeft call points storm size state numbers setup answer
+    pub take-accepted : (numbers' state' answer' : List ℤ) (elapsed low high : ℤ) → x.answer ≡ Accepted elapsed low high → state' ≡ state_numbers x.state → answer' ≡ answer_numbers (pos 0) low high →
+        numbers' ≡ rows' ++ drop size numbers → left_numbers 0 state' numbers' setup' answer' ≡ numbers_left call points storm size state numbers setup answer
     take-accepted numbers' state' answer' elapsed low high c s a e = rw (b, ← h, c, s, a, e)

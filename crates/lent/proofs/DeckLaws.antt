@@ -9,34 +9,34 @@ use lib.ListN.{length, take}
 use lib.IntN.{ℤ, pos}
 use Rattle.records.specs.declared.Head.{Head}
 use Rattle.records.specs.declared.Refusal.{Refusal}
-use Rattle.records.specs.Groups.{stationCount}
-use Rattle.records.specs.Refusals.{numberOf}
+use Rattle.records.specs.Groups.{station_count}
+use Rattle.records.specs.Refusals.{number_of}
 use Rattle.records.specs.Shapes.{Traverse}
 use Rattle.records.proofs.GroupLaws.{wholes-times}
 use Rattle.records.proofs.RefusalLaws.{number-above}
 use Rattle.deck.specs.declared.Converted.{Converted}
 use Rattle.deck.specs.declared.Converted.TheVariants as code
-use Rattle.deck.specs.Deck.{LeftDeck, leftDeck, convertOf}
+use Rattle.deck.specs.Deck.{LeftDeck, left_deck, convert_of}
 use Rattle.deck.specs.Reading.{paired, ReadBack}
 use Rattle.deck.proofs.ReadingLaws.{wrote, deck-is-read}
-use Rattle.lent.specs.Numbers.{placeNumber, answerNumbers, refusedAnswer, wrongBuffer}
-use Rattle.lent.specs.Texts.{lentPlace}
+use Rattle.lent.specs.Numbers.{place_number, answer_numbers, refused_answer, wrong_buffer}
+use Rattle.lent.specs.Texts.{lent_place}
 use Rattle.lent.specs.Again.{TraverseReading}
-use Rattle.lent.specs.Decks.{LeftText, leftText, afterConverted, deckWith, deckCall, textWritten, DeckTold, DeckThenTraverse}
+use Rattle.lent.specs.Decks.{LeftText, left_text, after_converted, deck_with, deck_call, text_written, DeckTold, DeckThenTraverse}
 use Rattle.lent.proofs.Again.{whole-place, traverse-again}
 
 -- ---- what the code answers
 
 module _ (x : LeftDeck) (text : List ℕ) (answer : List ℤ) where
-  pub deck-wrong : eqb (length answer) 3 ≡ false → leftText wrongBuffer text answer ≡ deckWith x text answer
+  pub deck-wrong : eqb (length answer) 3 ≡ false → left_text wrong_buffer text answer ≡ deck_with x text answer
   deck-wrong b = rw b
 
-  module _ (b : eqb (length answer) 3 ≡ true) (m : Converted) (text' : List ℕ) (h : leftDeck m text' ≡ x) where
-    pub deck-refused : (number : ℕ) (answer' : List ℤ) (refusal : Refusal) → m ≡ code.Refused refusal → number ≡ numberOf refusal.kind → answer' ≡ refusedAnswer refusal.place →
-        leftText number text' answer' ≡ deckWith x text answer
+  module _ (b : eqb (length answer) 3 ≡ true) (m : Converted) (text' : List ℕ) (h : left_deck m text' ≡ x) where
+    pub deck-refused : (number : ℕ) (answer' : List ℤ) (refusal : Refusal) → m ≡ code.Refused refusal → number ≡ number_of refusal.kind → answer' ≡ refused_answer refusal.place →
+        left_text number text' answer' ≡ deck_with x text answer
     deck-refused number answer' refusal e n a = rw (b, ← h, e, n, a)
 
-    pub deck-written : (answer' : List ℤ) (n : ℕ) → m ≡ code.Text n → answer' ≡ answerNumbers (pos 0) (placeNumber n) (pos 0) → leftText 0 text' answer' ≡ deckWith x text answer
+    pub deck-written : (answer' : List ℤ) (n : ℕ) → m ≡ code.Text n → answer' ≡ answer_numbers (pos 0) (place_number n) (pos 0) → left_text 0 text' answer' ≡ deck_with x text answer
     deck-written answer' n e a = rw (b, ← h, e, a)
 
 -- ---- the text that it wrote, read
@@ -45,12 +45,12 @@ module _ (x : LeftDeck) (text : List ℕ) (answer : List ℤ) where
 record WroteText (x : LeftDeck) (left : LeftText) : Type 0 where
   bytes : ℕ
   was : x.answer ≡ code.Text bytes
-  left-is : left ≡ afterConverted (code.Text bytes) x.text
+  left-is : left ≡ after_converted (code.Text bytes) x.text
 
-wrote-text : (x : LeftDeck) (text : List ℕ) (answer : List ℤ) (left : LeftText) → left ≡ deckWith x text answer → left.number ≡ 0 → WroteText x left
+wrote-text : (x : LeftDeck) (text : List ℕ) (answer : List ℤ) (left : LeftText) → left ≡ deck_with x text answer → left.number ≡ 0 → WroteText x left
 wrote-text x text answer left k z = by (eqb (length answer) 3) x.answer refl k
   where
-    by : (t : Bool) (c : Converted) → x.answer ≡ c → left ≡ cond t (afterConverted c x.text) (leftText wrongBuffer text answer) → WroteText x left
+    by : (t : Bool) (c : Converted) → x.answer ≡ c → left ≡ cond t (after_converted c x.text) (left_text wrong_buffer text answer) → WroteText x left
     by true (code.Text n) e k = record { bytes = n; was = e; left-is = k }
     by true (code.Refused refusal) e k = absurd (omega (arith, number-above refusal.kind, z, ap (λ (l : LeftText). l.number) k))
     by false c e k = absurd (omega (arith, z, ap (λ (l : LeftText). l.number) k))
@@ -62,7 +62,7 @@ paired-length [] hs e = refl
 paired-length (d ∷ ds) [] e = absurd (omega arith)
 paired-length (d ∷ ds) (h ∷ hs) e = let k = paired-length ds hs (omega arith) in omega arith
 
-paired-count : (ds hs : List ℕ) → length ds ≡ length hs → stationCount (paired ds hs) ≡ length ds
+paired-count : (ds hs : List ℕ) → length ds ≡ length hs → station_count (paired ds hs) ≡ length ds
 paired-count ds hs e = rw (paired-length ds hs e) (wholes-times 2 (length ds) (omega arith))
 
 -- what a call of `read_traverse` tells of a text that is read so
@@ -79,14 +79,14 @@ told-of h s text b t =
     }
 
 -- the bytes that the answer tells are those that were written
-written-is : (x : LeftDeck) (left : LeftText) (w : WroteText x left) → w.bytes < 2 ^ 63 → textWritten left ≡ take w.bytes x.text
-written-is x left w short = ap textWritten w.left-is ∙ ap (λ (p : ℤ). take (lentPlace p) x.text) (whole-place w.bytes (omega arith))
+written-is : (x : LeftDeck) (left : LeftText) (w : WroteText x left) → w.bytes < 2 ^ 63 → text_written left ≡ take w.bytes x.text
+written-is x left w short = ap text_written w.left-is ∙ ap (λ (p : ℤ). take (lent_place p) x.text) (whole-place w.bytes (omega arith))
 
 pub deck-then-traverse : DeckThenTraverse
-unfolding deckCall
+unfolding deck_call
 deck-then-traverse h s short d t =
-    let x = convertOf h s d.text in
+    let x = convert_of h s d.text in
     let w : WroteText x d.left = wrote-text x d.text d.answer d.left d.kept d.accepted in
     let fits = (wrote h s d.text w.bytes w.was).fits in
     let same = written-is x d.left w (omega (arith, fits, d.small)) in
-    told-of h s (textWritten d.left) (subst (ReadBack h s) (sym same) (deck-is-read h s d.text w.bytes short w.was)) t
+    told-of h s (text_written d.left) (subst (ReadBack h s) (sym same) (deck-is-read h s d.text w.bytes short w.was)) t

@@ -13,10 +13,10 @@ use Rattle.records.specs.declared.Check.TheVariants.{Pass, Fail}
 use Rattle.records.specs.declared.Closing.{Closing}
 use Rattle.records.specs.declared.Kind.TheVariants.{RecordValue, CalmAngle}
 use Rattle.records.specs.declared.Refusal.{Refusal}
-use Rattle.records.specs.CheckOrder.{need, firstOf}
-use Rattle.records.specs.Groups.{wholes, pointAt}
-use Rattle.records.specs.Limits.{pointOk, calmOk}
-use Rattle.records.specs.Refusals.{numberOf, refusal}
+use Rattle.records.specs.CheckOrder.{need, first_of}
+use Rattle.records.specs.Groups.{wholes, point_at}
+use Rattle.records.specs.Limits.{point_ok, calm_ok}
+use Rattle.records.specs.Refusals.{number_of, refusal}
 use Rattle.records.specs.Shapes.{storm}
 use Rattle.records.proofs.CheckOrderLaws.{each-pass, then-pass}
 use Rattle.records.proofs.GroupLaws.{wholes-times}
@@ -24,81 +24,81 @@ use Rattle.records.proofs.LimitLaws.{Between}
 use Rattle.records.proofs.RefusalLaws.{number-above}
 use Rattle.hurricane.specs.declared.Made.{Made}
 use Rattle.hurricane.specs.declared.Made.TheVariants as code
-use Rattle.hurricane.specs.Factor.{factorEntry}
-use Rattle.hurricane.specs.Groups.{siteCount}
-use Rattle.hurricane.specs.Make.{Asked, asked, LeftMade, checkOf, madeNumbers, afterCheck, makeOf, leftBy}
+use Rattle.hurricane.specs.Factor.{factor_entry}
+use Rattle.hurricane.specs.Groups.{site_count}
+use Rattle.hurricane.specs.Make.{Asked, asked, LeftMade, check_of, made_numbers, after_check, make_of, left_by}
 use Rattle.hurricane.proofs.FactorTable.{entry-rule}
 use Rattle.hurricane.proofs.MakeLaws.{point-in, calm-in, made-length, made-point}
-use Rattle.march.specs.Checks.{timesOk, pointsOk, calmsOk, recordChecks}
-use Rattle.lent.specs.Numbers.{answerNumbers, refusedAnswer, wrongBuffer}
-use Rattle.lent.specs.Making.{LeftMake, leftMake, afterMade, makeWith, makeCall, Takeable, MadeTakeable}
+use Rattle.march.specs.Checks.{times_ok, points_ok, calms_ok, record_checks}
+use Rattle.lent.specs.Numbers.{answer_numbers, refused_answer, wrong_buffer}
+use Rattle.lent.specs.Making.{LeftMake, left_make, after_made, make_with, make_call, Takeable, MadeTakeable}
 
 -- ---- what the code answers
 
 module _ (x : LeftMade) (room answer : List ℤ) where
-  pub make-wrong : eqb (length answer) 3 ≡ false → leftMake wrongBuffer room answer ≡ makeWith x room answer
+  pub make-wrong : eqb (length answer) 3 ≡ false → left_make wrong_buffer room answer ≡ make_with x room answer
   make-wrong b = rw b
 
-  module _ (b : eqb (length answer) 3 ≡ true) (m : Made) (room' : List ℤ) (h : leftBy m room' ≡ x) where
-    pub make-refused : (number : ℕ) (answer' : List ℤ) (refusal : Refusal) → m ≡ code.Refused refusal → number ≡ numberOf refusal.kind → answer' ≡ refusedAnswer refusal.place →
-        leftMake number room' answer' ≡ makeWith x room answer
+  module _ (b : eqb (length answer) 3 ≡ true) (m : Made) (room' : List ℤ) (h : left_by m room' ≡ x) where
+    pub make-refused : (number : ℕ) (answer' : List ℤ) (refusal : Refusal) → m ≡ code.Refused refusal → number ≡ number_of refusal.kind → answer' ≡ refused_answer refusal.place →
+        left_make number room' answer' ≡ make_with x room answer
     make-refused number answer' refusal e n a = rw (b, ← h, e, n, a)
 
-    pub make-accepted : (answer' : List ℤ) (closing : Closing) → m ≡ code.Made closing → answer' ≡ answerNumbers (pos 0) closing.seconds closing.tide → leftMake 0 room' answer' ≡ makeWith x room answer
+    pub make-accepted : (answer' : List ℤ) (closing : Closing) → m ≡ code.Made closing → answer' ≡ answer_numbers (pos 0) closing.seconds closing.tide → left_make 0 room' answer' ≡ make_with x room answer
     make-accepted answer' closing e a = rw (b, ← h, e, a)
 
 -- ---- what it made can be taken
 
-abbrev leftAfter : Bool → Check → Asked → List ℤ → LeftMake
-leftAfter t c a answer = cond t (afterMade (afterCheck c a).answer (afterCheck c a).room) (leftMake wrongBuffer a.room answer)
+abbrev left_after : Bool → Check → Asked → List ℤ → LeftMake
+left_after t c a answer = cond t (after_made (after_check c a).answer (after_check c a).room) (left_make wrong_buffer a.room answer)
 
 -- 0 is returned only where the checks passed
 record MadeIt (a : Asked) (left : LeftMake) : Type 0 where
-  all : checkOf a ≡ Pass
-  room-is : left.storm ≡ madeNumbers a ++ drop (3 * siteCount a.sites) a.room
-  answer-is : left.answer ≡ answerNumbers (pos 0) a.closing.seconds a.closing.tide
+  all : check_of a ≡ Pass
+  room-is : left.storm ≡ made_numbers a ++ drop (3 * site_count a.sites) a.room
+  answer-is : left.answer ≡ answer_numbers (pos 0) a.closing.seconds a.closing.tide
 
-made-it : (a : Asked) (answer : List ℤ) → (makeWith (makeOf a) a.room answer).number ≡ 0 → MadeIt a (makeWith (makeOf a) a.room answer)
-unfolding makeOf
-made-it a answer z = by (eqb (length answer) 3) (checkOf a) refl z
+made-it : (a : Asked) (answer : List ℤ) → (make_with (make_of a) a.room answer).number ≡ 0 → MadeIt a (make_with (make_of a) a.room answer)
+unfolding make_of
+made-it a answer z = by (eqb (length answer) 3) (check_of a) refl z
   where
-    by : (t : Bool) (c : Check) → checkOf a ≡ c → (leftAfter t c a answer).number ≡ 0 → MadeIt a (leftAfter t c a answer)
+    by : (t : Bool) (c : Check) → check_of a ≡ c → (left_after t c a answer).number ≡ 0 → MadeIt a (left_after t c a answer)
     by true Pass e z = record { all = e; room-is = refl; answer-is = refl }
     by true (Fail refusal) e z = let n = number-above refusal.kind in absurd (omega arith)
     by false c e z = absurd (omega arith)
 
 module _ (a : Asked) (limits : (m : ℕ) → m < 1001 → Between (pos 0) (pos 10000) (a.factor m)) (left : LeftMake) (v : MadeIt a left) where
   abbrev n : ℕ
-  n = siteCount a.sites
+  n = site_count a.sites
 
-  numbers-are : take (3 * n) left.storm ≡ madeNumbers a
-  numbers-are = ap (take (3 * n)) v.room-is ∙ take_at (madeNumbers a) (drop (3 * n) a.room) (3 * n) (made-length a limits v.all)
+  numbers-are : take (3 * n) left.storm ≡ made_numbers a
+  numbers-are = ap (take (3 * n)) v.room-is ∙ take_at (made_numbers a) (drop (3 * n) a.room) (3 * n) (made-length a limits v.all)
 
-  points-ok : (i : ℕ) → i < n → pointOk (pointAt (madeNumbers a) i) ≡ true
+  points-ok : (i : ℕ) → i < n → point_ok (point_at (made_numbers a) i) ≡ true
   points-ok i h = rw (made-point a limits v.all i h) (point-in a limits v.all i h)
 
-  calms-ok : (i : ℕ) → i < n → calmOk (pointAt (madeNumbers a) i) ≡ true
+  calms-ok : (i : ℕ) → i < n → calm_ok (point_at (made_numbers a) i) ≡ true
   calms-ok i h = rw (made-point a limits v.all i h) (calm-in a i)
 
-  made-takeable : Takeable n (storm a.closing (madeNumbers a))
-  unfolding recordChecks firstOf
+  made-takeable : Takeable n (storm a.closing (made_numbers a))
+  unfolding record_checks first_of
   made-takeable = record {
     count = ap (wholes 3) (made-length a limits v.all) ∙ wholes-times 3 n (omega arith);
     points = points-ok;
     calms = calms-ok;
-    check = λ st. rw (each-pass RecordValue (pointsOk (madeNumbers a)) n points-ok, each-pass CalmAngle (calmsOk (madeNumbers a)) n calms-ok) (then-pass (need (timesOk a.closing st) (refusal RecordValue 0)));
+    check = λ st. rw (each-pass RecordValue (points_ok (made_numbers a)) n points-ok, each-pass CalmAngle (calms_ok (made_numbers a)) n calms-ok) (then-pass (need (times_ok a.closing st) (refusal RecordValue 0)));
   }
 
   takeable : Takeable n (storm a.closing (take (3 * n) left.storm))
   takeable = subst (λ (l : List ℤ). Takeable n (storm a.closing l)) (sym numbers-are) made-takeable
 
 -- the entries of the table are within their limits
-entries-in : (m : ℕ) → m < 1001 → Between (pos 0) (pos 10000) (factorEntry m)
+entries-in : (m : ℕ) → m < 1001 → Between (pos 0) (pos 10000) (factor_entry m)
 entries-in m h = record { from = (entry-rule m h).low; to = (entry-rule m h).high }
 
 pub made-is-takeable : MadeTakeable
-unfolding makeCall
+unfolding make_call
 made-is-takeable central edge radius x y seconds tide winds sites storm answer left k z =
-    let a = asked factorEntry (record { central = central; edge = edge; radius = radius; x = x; y = y }) (record { seconds = seconds; tide = tide }) winds sites storm in
+    let a = asked factor_entry (record { central = central; edge = edge; radius = radius; x = x; y = y }) (record { seconds = seconds; tide = tide }) winds sites storm in
     let v : MadeIt a left = subst (MadeIt a) (sym k) (made-it a answer (sym (ap (λ (l : LeftMake). l.number) k) ∙ z)) in
     (takeable a entries-in left v, v.answer-is)

@@ -1,17 +1,17 @@
 -- The calls of the march on lent numbers, whatever they are given: what is returned, and everything that was lent. Each is the march's own definition
--- (`openOf`, `takeOf`), with numbers for its values. `Opens` is the promise itself: the code's `ensures` and the statements over lists of calls are
+-- (`open_of`, `take_of`), with numbers for its values. `Opens` is the promise itself: the code's `ensures` and the statements over lists of calls are
 -- both of it.
 use Rattle.std.specs.Prelude.{◌≡◌, cond, ◌&&◌, List, ◌++◌, ℕ, ◌*◌, leb, length, take, drop, ℤ, pos}
-use Rattle.records.specs.Limits.{mostPoints}
+use Rattle.records.specs.Limits.{most_points}
 use Rattle.records.specs.Shapes.{Traverse, traverse}
 use Rattle.march.specs.declared.State.{State}
 use Rattle.march.specs.declared.Call.{Call}
-use Rattle.march.specs.Answers.{Told, accepted, refused, ToldOpen, opened, notOpened}
+use Rattle.march.specs.Answers.{Told, accepted, refused, ToldOpen, opened, not_opened}
 use Rattle.march.specs.Given.{given}
-use Rattle.march.specs.Checks.{openOf}
-use Rattle.march.specs.Take.{takeOf}
+use Rattle.march.specs.Checks.{open_of}
+use Rattle.march.specs.Take.{take_of}
 use Rattle.march.specs.Take as march
-use Rattle.lent.specs.Numbers.{stateOf, stateNumbers, answerNumbers, refusedAnswer, buffersOk, wrongBuffer}
+use Rattle.lent.specs.Numbers.{state_of, state_numbers, answer_numbers, refused_answer, buffers_ok, wrong_buffer}
 
 -- ---- opening a traverse
 
@@ -20,41 +20,41 @@ pub record LeftOpen : Type 0 where
   pub state : List ℤ
   pub answer : List ℤ
 
-abbrev pub leftOpen : ℕ → List ℤ → List ℤ → LeftOpen
-leftOpen number state answer = record { number = number; state = state; answer = answer }
+abbrev pub left_open : ℕ → List ℤ → List ℤ → LeftOpen
+left_open number state answer = record { number = number; state = state; answer = answer }
 
 -- the state is written where the traverse is accepted
-abbrev pub afterOpen : ToldOpen → State → List ℤ → LeftOpen
-afterOpen opened fresh state = leftOpen 0 (stateNumbers fresh) (answerNumbers (pos 0) (pos 0) (pos 0))
-afterOpen (notOpened number place) fresh state = leftOpen number state (refusedAnswer place)
+abbrev pub after_open : ToldOpen → State → List ℤ → LeftOpen
+after_open opened fresh state = left_open 0 (state_numbers fresh) (answer_numbers (pos 0) (pos 0) (pos 0))
+after_open (not_opened number place) fresh state = left_open number state (refused_answer place)
 
-abbrev pub openWith : Traverse → List ℤ → List ℤ → LeftOpen
-openWith t state answer =
-    cond (buffersOk (length state) (length answer)) (afterOpen (openOf mostPoints t).answer (openOf mostPoints t).state state) (leftOpen wrongBuffer state answer)
+abbrev pub open_with : Traverse → List ℤ → List ℤ → LeftOpen
+open_with t state answer =
+    cond (buffers_ok (length state) (length answer)) (after_open (open_of most_points t).answer (open_of most_points t).state state) (left_open wrong_buffer state answer)
 
-unfoldable pub openCall : ℤ → ℤ → ℤ → List ℤ → List ℤ → List ℤ → LeftOpen
-openCall latitude friction initial points = openWith (traverse (record { latitude = latitude; friction = friction; initial = initial }) points)
+unfoldable pub open_call : ℤ → ℤ → ℤ → List ℤ → List ℤ → List ℤ → LeftOpen
+open_call latitude friction initial points = open_with (traverse (record { latitude = latitude; friction = friction; initial = initial }) points)
 
 -- the promise of the call, on these and with this left
 abbrev pub Opens : ℤ → ℤ → ℤ → List ℤ → List ℤ → List ℤ → LeftOpen → Type 0
-Opens latitude friction initial points state answer left = left ≡ openCall latitude friction initial points state answer
+Opens latitude friction initial points state answer left = left ≡ open_call latitude friction initial points state answer
 
 -- ---- taking a record
 
-abbrev pub callOf : ℤ → ℤ → ℤ → ℤ → ℤ → List ℤ → Call
-callOf latitude friction initial seconds tide state = record {
+abbrev pub call_of : ℤ → ℤ → ℤ → ℤ → ℤ → List ℤ → Call
+call_of latitude friction initial seconds tide state = record {
   head = record { latitude = latitude; friction = friction; initial = initial };
   closing = record { seconds = seconds; tide = tide };
-  state = stateOf state;
+  state = state_of state;
 }
 
 -- what the march makes of the numbers lent, with these for the rows
-abbrev pub marchLeft : Call → List ℤ → List ℤ → List ℤ → List ℤ → march.Left
-marchLeft call points storm rows setup = takeOf (given mostPoints call points storm rows setup)
+abbrev pub march_left : Call → List ℤ → List ℤ → List ℤ → List ℤ → march.Left
+march_left call points storm rows setup = take_of (given most_points call points storm rows setup)
 
 -- how many of so many numbers n rows are, where so many may be lent and are there
-unfoldable pub rowsSize : ℕ → ℕ → ℕ
-rowsSize n len = cond (leb n 64 && leb (3 * n) len) (3 * n) 0
+unfoldable pub rows_size : ℕ → ℕ → ℕ
+rows_size n len = cond (leb n 64 && leb (3 * n) len) (3 * n) 0
 
 pub record LeftNumbers : Type 0 where
   pub number : ℕ
@@ -63,22 +63,22 @@ pub record LeftNumbers : Type 0 where
   pub setup : List ℤ
   pub answer : List ℤ
 
-abbrev pub leftNumbers : ℕ → List ℤ → List ℤ → List ℤ → List ℤ → LeftNumbers
-leftNumbers number state numbers setup answer = record { number = number; state = state; numbers = numbers; setup = setup; answer = answer }
+abbrev pub left_numbers : ℕ → List ℤ → List ℤ → List ℤ → List ℤ → LeftNumbers
+left_numbers number state numbers setup answer = record { number = number; state = state; numbers = numbers; setup = setup; answer = answer }
 
 -- the rows are the first `size` numbers, and what lies past them stays. "A refused record leaves rows, setup buffer and the whole state as before
--- it"; the setup places are `takeOf`'s in either case
-abbrev pub afterNumbers : Told → march.Left → ℕ → List ℤ → List ℤ → LeftNumbers
-afterNumbers (accepted elapsed low high) x size state numbers = leftNumbers 0 (stateNumbers x.state) (x.rows ++ drop size numbers) x.setup (answerNumbers (pos 0) low high)
-afterNumbers (refused number place) x size state numbers = leftNumbers number state numbers x.setup (refusedAnswer place)
+-- it"; the setup places are `take_of`'s in either case
+abbrev pub after_numbers : Told → march.Left → ℕ → List ℤ → List ℤ → LeftNumbers
+after_numbers (accepted elapsed low high) x size state numbers = left_numbers 0 (state_numbers x.state) (x.rows ++ drop size numbers) x.setup (answer_numbers (pos 0) low high)
+after_numbers (refused number place) x size state numbers = left_numbers number state numbers x.setup (refused_answer place)
 
-abbrev pub numbersWith : march.Left → ℕ → List ℤ → List ℤ → List ℤ → List ℤ → LeftNumbers
-numbersWith x size state numbers setup answer =
-    cond (buffersOk (length state) (length answer)) (afterNumbers x.answer x size state numbers) (leftNumbers wrongBuffer state numbers setup answer)
+abbrev pub numbers_with : march.Left → ℕ → List ℤ → List ℤ → List ℤ → List ℤ → LeftNumbers
+numbers_with x size state numbers setup answer =
+    cond (buffers_ok (length state) (length answer)) (after_numbers x.answer x size state numbers) (left_numbers wrong_buffer state numbers setup answer)
 
-abbrev pub numbersLeft : Call → List ℤ → List ℤ → ℕ → List ℤ → List ℤ → List ℤ → List ℤ → LeftNumbers
-numbersLeft call points storm size state numbers setup answer = numbersWith (marchLeft call points storm (take size numbers) setup) size state numbers setup answer
+abbrev pub numbers_left : Call → List ℤ → List ℤ → ℕ → List ℤ → List ℤ → List ℤ → List ℤ → LeftNumbers
+numbers_left call points storm size state numbers setup answer = numbers_with (march_left call points storm (take size numbers) setup) size state numbers setup answer
 
-unfoldable pub takeNumbers : ℤ → ℤ → ℤ → List ℤ → ℤ → ℤ → List ℤ → List ℤ → ℕ → List ℤ → List ℤ → List ℤ → LeftNumbers
-takeNumbers latitude friction initial points seconds tide storm state n numbers setup answer =
-    numbersLeft (callOf latitude friction initial seconds tide state) points storm (rowsSize n (length numbers)) state numbers setup answer
+unfoldable pub take_numbers : ℤ → ℤ → ℤ → List ℤ → ℤ → ℤ → List ℤ → List ℤ → ℕ → List ℤ → List ℤ → List ℤ → LeftNumbers
+take_numbers latitude friction initial points seconds tide storm state n numbers setup answer =
+    numbers_left (call_of latitude friction initial seconds tide state) points storm (rows_size n (length numbers)) state numbers setup answer

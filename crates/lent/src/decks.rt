@@ -1,5 +1,5 @@
 // Turning an old card deck into the text of `traverse.txt`. Every check and every byte is `deck`'s own.
-ghost use Rattle.lent.specs.Decks.{leftText, ReadsDeck};
+ghost use Rattle.lent.specs.Decks.{left_text, ReadsDeck};
 
 use super::numbers::{ANSWER, WRONG_BUFFER, place_number, refuse, store_three};
 use deck::Converted;
@@ -15,7 +15,7 @@ pub fn read_deck(
     text: &mut [u8],
     answer: &mut [i64],
 ) -> u64
-    ensures { ReadsDeck latitude friction initial deck.now text.old answer.old (leftText result text.new answer.new) }
+    ensures { ReadsDeck latitude friction initial deck.now text.old answer.old (left_text result text.new answer.new) }
 {
     if answer.len() != ANSWER {
         return WRONG_BUFFER;

@@ -1,5 +1,5 @@
 // Making a storm record from a hurricane's few numbers. Every check and every number is `hurricane`'s own.
-ghost use Rattle.lent.specs.Making.{leftMake, Makes};
+ghost use Rattle.lent.specs.Making.{left_make, Makes};
 
 use super::numbers::{ANSWER, WRONG_BUFFER, refuse, store_three};
 use hurricane::{Hurricane, Made};
@@ -20,7 +20,7 @@ pub fn make_record(
     storm: &mut [i64],
     answer: &mut [i64],
 ) -> u64
-    ensures { Makes central edge radius x y seconds tide winds.now sites.now storm.old answer.old (leftMake result storm.new answer.new) }
+    ensures { Makes central edge radius x y seconds tide winds.now sites.now storm.old answer.old (left_make result storm.new answer.new) }
 {
     if answer.len() != ANSWER {
         return WRONG_BUFFER;

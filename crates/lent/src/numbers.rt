@@ -1,8 +1,8 @@
 // What a caller's numbers stand for beside points and rows: `state` has 2 (elapsed seconds, whether a first record was accepted) and `answer` 3
 // (place of a refusal, low and high of the shore height).
 ghost use Rattle.std.specs.Prelude.{◌≡◌, length};
-ghost use Rattle.records.specs.Refusals.{numberOf};
-ghost use Rattle.lent.specs.Numbers.{notZero, stateOf, startedNumber, stateNumbers, placeNumber, answerNumbers, buffersOk, refusedAnswer};
+ghost use Rattle.records.specs.Refusals.{number_of};
+ghost use Rattle.lent.specs.Numbers.{not_zero, state_of, started_number, state_numbers, place_number, answer_numbers, buffers_ok, refused_answer};
 
 use march::State;
 use records::Refusal;
@@ -15,7 +15,7 @@ pub const ANSWER: usize = 3;
 pub const WRONG_BUFFER: u64 = 255;
 
 pub fn buffers_ok(state: usize, answer: usize) -> bool
-    ensures { result ≡ buffersOk state answer }
+    ensures { result ≡ buffers_ok state answer }
 {
     if state != STATE {
         return false;
@@ -25,7 +25,7 @@ pub fn buffers_ok(state: usize, answer: usize) -> bool
 
 // x is not 0.
 pub fn not_zero(x: i64) -> bool
-    ensures { result ≡ notZero x }
+    ensures { result ≡ not_zero x }
 {
     if x < 0 {
         return true;
@@ -36,7 +36,7 @@ pub fn not_zero(x: i64) -> bool
 // The state: any number but 0 says that a first record was accepted.
 pub fn state_of(numbers: &[i64]) -> State
     requires { length numbers.now ≡ 2 }
-    ensures { result ≡ stateOf numbers.now }
+    ensures { result ≡ state_of numbers.now }
 {
     let elapsed = numbers[0];
     let started = numbers[1];
@@ -49,7 +49,7 @@ pub fn state_of(numbers: &[i64]) -> State
 
 // 1 for yes.
 pub fn started_number(started: bool) -> i64
-    ensures { result ≡ startedNumber started }
+    ensures { result ≡ started_number started }
 {
     if started {
         return 1;
@@ -59,7 +59,7 @@ pub fn started_number(started: bool) -> i64
 
 pub fn store_state(numbers: &mut [i64], st: State)
     requires { length numbers.old ≡ 2 }
-    ensures { numbers.new ≡ stateNumbers st }
+    ensures { numbers.new ≡ state_numbers st }
 {
     let elapsed = st.elapsed;
     let started = started_number(st.started);
@@ -69,7 +69,7 @@ pub fn store_state(numbers: &mut [i64], st: State)
 
 // A place as a number with sign. No place is past the greatest such number: a slice has not so many points.
 pub fn place_number(place: usize) -> i64
-    ensures { result ≡ placeNumber place }
+    ensures { result ≡ place_number place }
 {
     if place <= 9_223_372_036_854_775_807 {
         return place as i64;
@@ -80,7 +80,7 @@ pub fn place_number(place: usize) -> i64
 // The answer's three numbers, and those of a traverse's head.
 pub fn store_three(numbers: &mut [i64], first: i64, second: i64, third: i64)
     requires { length numbers.old ≡ 3 }
-    ensures { numbers.new ≡ answerNumbers first second third }
+    ensures { numbers.new ≡ answer_numbers first second third }
 {
     numbers[0] = first;
     numbers[1] = second;
@@ -90,8 +90,8 @@ pub fn store_three(numbers: &mut [i64], first: i64, second: i64, third: i64)
 // A refusal: its place into the answer, and its number.
 pub fn refuse(refusal: Refusal, answer: &mut [i64]) -> u64
     requires { length answer.old ≡ 3 }
-    ensures value { result ≡ numberOf refusal.kind }
-    ensures answer_after { answer.new ≡ refusedAnswer refusal.place }
+    ensures value { result ≡ number_of refusal.kind }
+    ensures answer_after { answer.new ≡ refused_answer refusal.place }
 {
     let place = place_number(refusal.place);
     store_three(answer, place, 0, 0);

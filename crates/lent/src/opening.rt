@@ -1,5 +1,5 @@
 // Opening a traverse.
-ghost use Rattle.lent.specs.Calls.{leftOpen, Opens};
+ghost use Rattle.lent.specs.Calls.{left_open, Opens};
 
 use super::numbers::{WRONG_BUFFER, buffers_ok, refuse, store_state, store_three};
 use records::{Check, Head};
@@ -13,7 +13,7 @@ pub fn open_traverse(
     state: &mut [i64],
     answer: &mut [i64],
 ) -> u64
-    ensures { Opens latitude friction initial points.now state.old answer.old (leftOpen result state.new answer.new) }
+    ensures { Opens latitude friction initial points.now state.old answer.old (left_open result state.new answer.new) }
 {
     if !buffers_ok(state.len(), answer.len()) {
         return WRONG_BUFFER;

@@ -1,9 +1,9 @@
 // The text of `traverse.txt` and of `storm.txt`, any bytes, read into a caller's numbers. Every check is the reader's own. What is read goes into
 // numbers of the call's own first, so that a refused text leaves what is lent as it was.
 ghost use Rattle.std.specs.Prelude.{◌≡◌, pos, length};
-ghost use Rattle.reader.specs.Storm.{nextLeft};
-ghost use Rattle.lent.specs.Numbers.{answerNumbers};
-ghost use Rattle.lent.specs.Texts.{noNumbers, traverseBuffers, leftTraverse, ReadsTraverse, lentPlace, cursorOf, cursorNumbers, startOf, recordBuffers, RecordIn, leftRecord, keptRecord, afterNext, ReadsRecord};
+ghost use Rattle.reader.specs.Storm.{next_left};
+ghost use Rattle.lent.specs.Numbers.{answer_numbers};
+ghost use Rattle.lent.specs.Texts.{no_numbers, traverse_buffers, left_traverse, ReadsTraverse, lent_place, cursor_of, cursor_numbers, start_of, record_buffers, RecordIn, left_record, kept_record, after_next, ReadsRecord};
 
 use super::numbers::{ANSWER, WRONG_BUFFER, place_number, refuse, store_three};
 use reader::{Cursor, Lines, Next, Whole};
@@ -32,7 +32,7 @@ pub fn copy(to: &mut [i64], from: &[i64])
 }
 
 pub fn traverse_buffers(head: usize, points: usize, answer: usize) -> bool
-    ensures { result ≡ traverseBuffers head points answer }
+    ensures { result ≡ traverse_buffers head points answer }
 {
     if head != HEAD {
         return false;
@@ -45,7 +45,7 @@ pub fn traverse_buffers(head: usize, points: usize, answer: usize) -> bool
 
 // Reads a traverse text: 3 numbers of values, 2 to each of 65 points, and in the answer how many points there are.
 pub fn read_traverse(text: &[u8], head: &mut [i64], points: &mut [i64], answer: &mut [i64]) -> u64
-    ensures { ReadsTraverse text.now head.old points.old answer.old (leftTraverse result head.new points.new answer.new) }
+    ensures { ReadsTraverse text.now head.old points.old answer.old (left_traverse result head.new points.new answer.new) }
 {
     if !traverse_buffers(head.len(), points.len(), answer.len()) {
         return WRONG_BUFFER;
@@ -68,7 +68,7 @@ pub fn read_traverse(text: &[u8], head: &mut [i64], points: &mut [i64], answer: 
 
 // A lent number as a place in the text or a count of lines; a negative one is read as 0.
 pub fn lent_place(x: i64) -> usize
-    ensures { result ≡ lentPlace x }
+    ensures { result ≡ lent_place x }
 {
     if x < 0 {
         return 0;
@@ -78,7 +78,7 @@ pub fn lent_place(x: i64) -> usize
 
 pub fn load_cursor(numbers: &[i64]) -> Cursor
     requires { length numbers.now ≡ 2 }
-    ensures { result ≡ cursorOf numbers.now }
+    ensures { result ≡ cursor_of numbers.now }
 {
     let place = numbers[0];
     let lines = numbers[1];
@@ -89,7 +89,7 @@ pub fn load_cursor(numbers: &[i64]) -> Cursor
 
 pub fn store_cursor(numbers: &mut [i64], c: Cursor)
     requires { length numbers.old ≡ 2 }
-    ensures { numbers.new ≡ cursorNumbers c }
+    ensures { numbers.new ≡ cursor_numbers c }
 {
     let at = place_number(c.at);
     let line = place_number(c.line);
@@ -99,7 +99,7 @@ pub fn store_cursor(numbers: &mut [i64], c: Cursor)
 
 // The names line, where nothing was read so far.
 pub fn start_of(text: &[u8], from: Cursor) -> Lines
-    ensures { result ≡ startOf text.now from }
+    ensures { result ≡ start_of text.now from }
 {
     if from.at != 0 {
         return Lines::Read(from);
@@ -111,7 +111,7 @@ pub fn start_of(text: &[u8], from: Cursor) -> Lines
 }
 
 pub fn record_buffers(cursor: usize, values: usize, storm: usize, answer: usize) -> bool
-    ensures { result ≡ recordBuffers cursor values storm answer }
+    ensures { result ≡ record_buffers cursor values storm answer }
 {
     if cursor != CURSOR {
         return false;
@@ -135,7 +135,7 @@ pub fn keep_record(
     answer: &mut [i64],
 ) -> u64
     requires { (RecordIn cursor.old values.old storm.old answer.old) × (length numbers.now ≡ 197) }
-    ensures { leftRecord result cursor.new values.new storm.new answer.new ≡ keptRecord c numbers.now }
+    ensures { left_record result cursor.new values.new storm.new answer.new ≡ kept_record c numbers.now }
 {
     store_cursor(cursor, c);
     copy(values, &numbers[..2]);
@@ -148,7 +148,7 @@ pub fn keep_record(
 pub fn end_text(answer: &mut [i64]) -> u64
     requires { length answer.old ≡ 3 }
     ensures value { result ≡ 0 }
-    ensures answer_after { answer.new ≡ answerNumbers (pos 0) (pos 0) (pos 0) }
+    ensures answer_after { answer.new ≡ answer_numbers (pos 0) (pos 0) (pos 0) }
 {
     store_three(answer, 0, 0, 0);
     0
@@ -165,7 +165,7 @@ pub fn read_on(
     answer: &mut [i64],
 ) -> u64
     requires { RecordIn cursor.old values.old storm.old answer.old }
-    ensures { leftRecord result cursor.new values.new storm.new answer.new ≡ afterNext (nextLeft text.now count from.at from.line noNumbers) cursor.old values.old storm.old }
+    ensures { left_record result cursor.new values.new storm.new answer.new ≡ after_next (next_left text.now count from.at from.line no_numbers) cursor.old values.old storm.old }
 {
     let mut numbers = [0; 197];
     match from.next_record(text, count, &mut numbers) {
@@ -184,7 +184,7 @@ pub fn read_record(
     storm: &mut [i64],
     answer: &mut [i64],
 ) -> u64
-    ensures { ReadsRecord text.now count cursor.old values.old storm.old answer.old (leftRecord result cursor.new values.new storm.new answer.new) }
+    ensures { ReadsRecord text.now count cursor.old values.old storm.old answer.old (left_record result cursor.new values.new storm.new answer.new) }
 {
     if !record_buffers(cursor.len(), values.len(), storm.len(), answer.len()) {
         return WRONG_BUFFER;

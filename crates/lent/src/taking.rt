@@ -1,6 +1,6 @@
 // Taking a record, with the rows among a slice of numbers.
 ghost use Rattle.std.specs.Prelude.{◌≡◌, length};
-ghost use Rattle.lent.specs.Calls.{callOf, rowsSize, leftNumbers, takeNumbers};
+ghost use Rattle.lent.specs.Calls.{call_of, rows_size, left_numbers, take_numbers};
 
 use super::numbers::{WRONG_BUFFER, buffers_ok, refuse, state_of, store_state, store_three};
 use march::{Answer, Call};
@@ -8,9 +8,9 @@ use records::limits::SEGMENTS_MOST;
 use records::{Closing, Head, Row};
 
 // How many numbers n rows are, where so many may be lent and are there; else 0.
-#[tactic(auto, unfolding(crate::specs::Calls::rowsSize))]
+#[tactic(auto, unfolding(crate::specs::Calls::rows_size))]
 pub fn rows_size(n: usize, len: usize) -> usize
-    ensures { result ≡ rowsSize n len }
+    ensures { result ≡ rows_size n len }
 {
     if n > SEGMENTS_MOST {
         return 0;
@@ -32,7 +32,7 @@ pub fn call_of(
     state: &[i64],
 ) -> Call
     requires { length state.now ≡ 2 }
-    ensures { result ≡ callOf latitude friction initial seconds tide state.now }
+    ensures { result ≡ call_of latitude friction initial seconds tide state.now }
 {
     let head = Head {
         latitude: latitude,
@@ -66,7 +66,7 @@ pub fn take_numbers(
     setup: &mut [i64],
     answer: &mut [i64],
 ) -> u64
-    ensures { leftNumbers result state.new numbers.new setup.new answer.new ≡ takeNumbers latitude friction initial points.now seconds tide storm.now state.old n numbers.old setup.old answer.old }
+    ensures { left_numbers result state.new numbers.new setup.new answer.new ≡ take_numbers latitude friction initial points.now seconds tide storm.now state.old n numbers.old setup.old answer.old }
 {
     if !buffers_ok(state.len(), answer.len()) {
         return WRONG_BUFFER;

@@ -1,4 +1,4 @@
--- Laws of `putOf`: what an open call answers, from the test for room and from what was written. Assumes nothing.
+-- Laws of `put_of`: what an open call answers, from the test for room and from what was written. Assumes nothing.
 use mathlib.Core.Path.{◌≡◌, refl, sym, ap, ◌∙◌}
 use native.Mathlib.Omega.{arith}
 use mathlib.Core.Bool.{Bool, true, false, not}
@@ -7,20 +7,20 @@ use Prim.Native.Nat.{ℕ, ◌+◌, ◌≤◌}
 use lib.ListN.{length}
 use lib.Dec.{leb}
 use borrow.Author.Tests.{not-true, not-false, leb-true, le-leb}
-use Rattle.listing.specs.Put.{AfterPut, afterPut, written, putOf, Wrote}
+use Rattle.listing.specs.Put.{AfterPut, after_put, written, put_of, Wrote}
 use Rattle.listing.proofs.Written.{length-written}
 use Rattle.listing.specs.declared.Put.TheVariants.{Next, Full}
 
 module _ (line : List ℕ) (at : ℕ) (s : List ℕ) (count : ℕ) (long : count ≡ length line)
     (room : Bool) (test : room ≡ leb (at + count) (length s)) where
   -- there is no room, and nothing is written
-  pub put_full : not room ≡ true → afterPut Full s ≡ putOf line at s
-  unfolding putOf
+  pub put_full : not room ≡ true → after_put Full s ≡ put_of line at s
+  unfolding put_of
   put_full e = let f : leb (at + count) (length s) ≡ false = sym test ∙ not-true room e in rw (← long, f)
 
   -- there is room, and the line is written
-  pub put_next : not room ≡ false → {next : ℕ} {t : List ℕ} → Wrote line at s next t → afterPut (Next next) t ≡ putOf line at s
-  unfolding putOf
+  pub put_next : not room ≡ false → {next : ℕ} {t : List ℕ} → Wrote line at s next t → after_put (Next next) t ≡ put_of line at s
+  unfolding put_of
   put_next e {next} {t} h =
       let f : leb (at + length line) (length s) ≡ true = rw long at (sym test ∙ not-false room e) in
       rw (f, h.place, h.buffer)
@@ -39,39 +39,39 @@ pub record Fitted (line : List ℕ) (at : ℕ) (s : List ℕ) (next : ℕ) (t : 
   pub long : length t ≡ length s
 
 module _ (line : List ℕ) (at : ℕ) (s : List ℕ) where
-  pub next-told : (next : ℕ) (t : List ℕ) → afterPut (Next next) t ≡ putOf line at s → Fitted line at s next t
-  unfolding putOf
+  pub next-told : (next : ℕ) (t : List ℕ) → after_put (Next next) t ≡ put_of line at s → Fitted line at s next t
+  unfolding put_of
   next-told next t e = by (leb (at + length line) (length s)) refl
     where
       by : (f : Bool) → leb (at + length line) (length s) ≡ f → Fitted line at s next t
       by true l =
-          let g : afterPut (Next next) t ≡ afterPut (Next (at + length line)) (written line at s) = rw l at e in
+          let g : after_put (Next next) t ≡ after_put (Next (at + length line)) (written line at s) = rw l at e in
           let p : next ≡ at + length line = cc (ap (λ (x : AfterPut). x.answer) g) in
           let b : t ≡ written line at s = ap (λ (x : AfterPut). x.out) g in
           let w : at + length line ≤ length s = leb-true (at + length line) (length s) l in
           record { place = p; within = omega arith; buffer = b; long = ap length b ∙ length-written line at s w }
       by false l =
-          let g : afterPut (Next next) t ≡ afterPut Full s = rw l at e in
+          let g : after_put (Next next) t ≡ after_put Full s = rw l at e in
           let z : ◌≡◌ {A = ℕ} 0 1 = cc (ap (λ (x : AfterPut). x.answer) g) in
           let no : ⊥ = omega arith in
           elim no [ ]
 
   -- `Full` leaves the buffer as lent
-  pub full-told : (t : List ℕ) → afterPut Full t ≡ putOf line at s → t ≡ s
-  unfolding putOf
+  pub full-told : (t : List ℕ) → after_put Full t ≡ put_of line at s → t ≡ s
+  unfolding put_of
   full-told t e = by (leb (at + length line) (length s)) refl
     where
       by : (f : Bool) → leb (at + length line) (length s) ≡ f → t ≡ s
       by true l =
-          let g : afterPut Full t ≡ afterPut (Next (at + length line)) (written line at s) = rw l at e in
+          let g : after_put Full t ≡ after_put (Next (at + length line)) (written line at s) = rw l at e in
           let z : ◌≡◌ {A = ℕ} 0 1 = cc (ap (λ (x : AfterPut). x.answer) g) in
           let no : ⊥ = omega arith in
           elim no [ ]
       by false l =
-          let g : afterPut Full t ≡ afterPut Full s = rw l at e in
+          let g : after_put Full t ≡ after_put Full s = rw l at e in
           ap (λ (x : AfterPut). x.out) g
 
   -- where there is room, the line goes in
-  pub put-fits : at + length line ≤ length s → putOf line at s ≡ afterPut (Next (at + length line)) (written line at s)
-  unfolding putOf
+  pub put-fits : at + length line ≤ length s → put_of line at s ≡ after_put (Next (at + length line)) (written line at s)
+  unfolding put_of
   put-fits h = rw (le-leb (at + length line) (length s) h)

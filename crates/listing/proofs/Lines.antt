@@ -7,8 +7,8 @@ use lib.ListN.{length, length-append}
 use lib.IntN.{ℤ, pos, negsuc}
 use mir.Syntax.{w64}
 use mir.Val.{SFits}
-use Rattle.listing.specs.Decimal.{decimalOf, signedText}
-use Rattle.listing.specs.Lines.{space, feed, valuesLine, recordLine, refusedWord, refusedLine}
+use Rattle.listing.specs.Decimal.{decimal_of, signed_text}
+use Rattle.listing.specs.Lines.{space, feed, values_line, record_line, refused_word, refused_line}
 use Rattle.listing.specs.Put.{Wrote}
 use Rattle.listing.proofs.Decimal.{length_most}
 use Rattle.listing.proofs.Written.{wrote_on}
@@ -21,35 +21,35 @@ module _ {xs ys zs line : List ℕ} (whole : xs ++ ys ++ zs ≡ line) {at : ℕ}
       subst (λ (l : List ℕ). Wrote l at s c v) whole (wrote_on (wrote_on p q (omega arith)) r (omega (arith, length-append xs ys)))
 
 pub values-length : (a b c : ℤ)
-    → length (valuesLine a b c) ≡ length (signedText a) + length (signedText b) + length (signedText c) + 3
-unfolding valuesLine
+    → length (values_line a b c) ≡ length (signed_text a) + length (signed_text b) + length (signed_text c) + 3
+unfolding values_line
 values-length a b c = simp length-append (omega arith)
 
 pub values-parts : (a b c : ℤ)
-    → (signedText a ++ space) ++ (signedText b ++ space) ++ (signedText c ++ feed) ≡ valuesLine a b c
-unfolding valuesLine
+    → (signed_text a ++ space) ++ (signed_text b ++ space) ++ (signed_text c ++ feed) ≡ values_line a b c
+unfolding values_line
 values-parts a b c = simp append_assoc
 
-pub refused-length : (number place : ℕ) → length (refusedLine number place) ≡ 8 + length (decimalOf number) + length (decimalOf place) + 2
-unfolding refusedLine
+pub refused-length : (number place : ℕ) → length (refused_line number place) ≡ 8 + length (decimal_of number) + length (decimal_of place) + 2
+unfolding refused_line
 refused-length number place = simp length-append (omega arith)
 
 pub refused-parts : (number place : ℕ)
-    → refusedWord ++ (decimalOf number ++ space) ++ (decimalOf place ++ feed) ≡ refusedLine number place
-unfolding refusedLine
+    → refused_word ++ (decimal_of number ++ space) ++ (decimal_of place ++ feed) ≡ refused_line number place
+unfolding refused_line
 refused-parts number place = simp append_assoc
 
 -- ---- the longest lines: a buffer with this much room is never full
 
-signed-most : (x : ℤ) → SFits w64 x → length (signedText x) ≤ 20
-unfolding signedText
+signed-most : (x : ℤ) → SFits w64 x → length (signed_text x) ≤ 20
+unfolding signed_text
 signed-most (pos n) f = let s = f.sfits in length_most 19 n (omega arith)
 signed-most (negsuc n) f = let s = f.sfits in let l = length_most 18 (suc n) (omega arith) in omega arith
 
-pub record-most : (elapsed low high : ℤ) → SFits w64 elapsed → SFits w64 low → SFits w64 high → length (recordLine elapsed low high) ≤ 63
+pub record-most : (elapsed low high : ℤ) → SFits w64 elapsed → SFits w64 low → SFits w64 high → length (record_line elapsed low high) ≤ 63
 record-most elapsed low high e l h =
     omega (arith, values-length elapsed low high, signed-most elapsed e, signed-most low l, signed-most high h)
 
-pub refused-most : (number place : ℕ) → number < 2 ^ 64 → place < 2 ^ 64 → length (refusedLine number place) ≤ 50
+pub refused-most : (number place : ℕ) → number < 2 ^ 64 → place < 2 ^ 64 → length (refused_line number place) ≤ 50
 refused-most number place n p =
     omega (arith, refused-length number place, length_most 19 number (omega arith), length_most 19 place (omega arith))

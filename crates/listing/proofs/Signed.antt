@@ -11,7 +11,7 @@ use lib.Signed.{lt_z, mag, non_neg}
 use lib.Dec.{T}
 use mir.Syntax.{w64}
 use mir.Val.{SFits}
-use Rattle.listing.specs.Decimal.{decimalOf, signedText}
+use Rattle.listing.specs.Decimal.{decimal_of, signed_text}
 
 up_fits : (n : ℕ) → n < 2 ^ 63 → SFits w64 (suc_ℤ (negsuc n))
 up_fits zero h = record { sfits = omega arith }
@@ -27,10 +27,10 @@ pub record Below (x : ℤ) : Type 0 where
   pub less : pos 0 -ℤ (x +ℤ pos 1) ≡ pos (mag x)
   pub size : mag x + 1 ≡ nat_abs x
   pub small : mag x < 2 ^ 63
-  pub spelt : signedText x ≡ 45 ∷ decimalOf (nat_abs x)
+  pub spelt : signed_text x ≡ 45 ∷ decimal_of (nat_abs x)
 
 pub below : (x : ℤ) → SFits w64 x → lt_z x (pos 0) ≡ true → Below x
-unfolding signedText
+unfolding signed_text
 below (pos n) f e = elim (not-suc-le-zero (ltb-true n 0 e)) [ ]
 below (negsuc n) f e = record {
   more = rw (+ℤ_one (negsuc n)) (up_fits n f.sfits);
@@ -44,9 +44,9 @@ below (negsuc n) f e = record {
 pub record Above (x : ℤ) : Type 0 where
   pub sign : T (non_neg x)
   pub small : nat_abs x < 2 ^ 63
-  pub spelt : signedText x ≡ decimalOf (nat_abs x)
+  pub spelt : signed_text x ≡ decimal_of (nat_abs x)
 
 pub above : (x : ℤ) → SFits w64 x → lt_z x (pos 0) ≡ false → Above x
-unfolding signedText
+unfolding signed_text
 above (pos n) f e = record { sign = tt; small = f.sfits; spelt = refl }
 above (negsuc n) f e = let z : ◌≡◌ {A = ℕ} 0 1 = cc in let no : ⊥ = omega arith in elim no [ ]

@@ -7,20 +7,20 @@ abbrev pub digit : ℕ → ℕ
 digit d = 48 + d
 
 -- n is below ten and one digit; or its digits are those of a tenth of it, as `front` gives them, and one more
-abbrev pub lastDigit : Bool → (ℕ → List ℕ) → ℕ → List ℕ
-lastDigit true front n = digit n ∷ []
-lastDigit false front n = front (n / 10) ++ (digit (n % 10) ∷ [])
+abbrev pub last_digit : Bool → (ℕ → List ℕ) → ℕ → List ℕ
+last_digit true front n = digit n ∷ []
+last_digit false front n = front (n / 10) ++ (digit (n % 10) ∷ [])
 
 -- the digits of n, the most significant first, where n has at most k of them
-unfoldable pub digitsOf : ℕ → ℕ → List ℕ
-digitsOf zero n = []
-digitsOf (suc k) n = lastDigit (ltb n 10) (digitsOf k) n
+unfoldable pub digits_of : ℕ → ℕ → List ℕ
+digits_of zero n = []
+digits_of (suc k) n = last_digit (ltb n 10) (digits_of k) n
 
 -- the decimal number n, which has at most n + 1 digits
-unfoldable pub decimalOf : ℕ → List ℕ
-decimalOf n = digitsOf (n + 1) n
+unfoldable pub decimal_of : ℕ → List ℕ
+decimal_of n = digits_of (n + 1) n
 
 -- the same with a minus in front where it is below zero
-unfoldable pub signedText : ℤ → List ℕ
-signedText (pos n) = decimalOf n
-signedText (negsuc n) = 45 ∷ decimalOf (suc n)
+unfoldable pub signed_text : ℤ → List ℕ
+signed_text (pos n) = decimal_of n
+signed_text (negsuc n) = 45 ∷ decimal_of (suc n)

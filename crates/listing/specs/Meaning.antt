@@ -1,14 +1,14 @@
--- What a decimal number says, apart from how it is made: the measure for `decimalOf` and `signedText`. Assumes nothing.
+-- What a decimal number says, apart from how it is made: the measure for `decimal_of` and `signed_text`. Assumes nothing.
 use Rattle.std.specs.Prelude.{◌≡◌, List, [], ◌∷◌, ℕ, ◌+◌, ◌-◌, ◌*◌, ◌≤◌, cond, eqb, ℤ, pos, neg_ℤ}
 
 -- what digits are worth behind digits that are worth v
-unfoldable pub worthAfter : ℕ → List ℕ → ℕ
-worthAfter v [] = v
-worthAfter v (b ∷ bs) = worthAfter (v * 10 + (b - 48)) bs
+unfoldable pub worth_after : ℕ → List ℕ → ℕ
+worth_after v [] = v
+worth_after v (b ∷ bs) = worth_after (v * 10 + (b - 48)) bs
 
 -- what digits are worth
 abbrev pub worth : List ℕ → ℕ
-worth bs = worthAfter 0 bs
+worth bs = worth_after 0 bs
 
 -- each byte is a digit
 abbrev pub AllDigits : List ℕ → Type 0
@@ -27,6 +27,6 @@ pub record Decimal (n : ℕ) (bs : List ℕ) : Type 0 where
   pub worths : worth bs ≡ n
 
 -- what digits with an optional minus are worth
-unfoldable pub worthSigned : List ℕ → ℤ
-worthSigned [] = pos 0
-worthSigned (b ∷ bs) = cond (eqb b 45) (neg_ℤ (pos (worth bs))) (pos (worth (b ∷ bs)))
+unfoldable pub worth_signed : List ℕ → ℤ
+worth_signed [] = pos 0
+worth_signed (b ∷ bs) = cond (eqb b 45) (neg_ℤ (pos (worth bs))) (pos (worth (b ∷ bs)))

@@ -12,13 +12,13 @@ pub record AfterPut : Type 0 where
   pub answer : Put
   pub out : List ℕ
 
-abbrev pub afterPut : Put → List ℕ → AfterPut
-afterPut r s = record { answer = r; out = s }
+abbrev pub after_put : Put → List ℕ → AfterPut
+after_put r s = record { answer = r; out = s }
 
 -- The line goes into the buffer s at place `at`, whole, and the answer is the place behind it;
 -- or it does not fit, and the buffer stays as it is.
-unfoldable pub putOf : List ℕ → ℕ → List ℕ → AfterPut
-putOf line at s = cond (leb (at + length line) (length s)) (afterPut (Next (at + length line)) (written line at s)) (afterPut Full s)
+unfoldable pub put_of : List ℕ → ℕ → List ℕ → AfterPut
+put_of line at s = cond (leb (at + length line) (length s)) (after_put (Next (at + length line)) (written line at s)) (after_put Full s)
 
 -- These bytes went into the buffer s at place `at`, which left it as t, and `next` is the place behind them.
 pub record Wrote (bytes : List ℕ) (at : ℕ) (s : List ℕ) (next : ℕ) (t : List ℕ) : Type 0 where

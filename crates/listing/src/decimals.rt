@@ -1,8 +1,8 @@
 // Whole decimal numbers and words put into a buffer that the caller lends. A `write_` function writes where its caller has seen to the room, and
 // answers the place behind what it wrote; the counts and `has_room` tell the room beforehand.
 ghost use Rattle.std.specs.Prelude.{◌≡◌, [], ◌∷◌, ◌++◌, ◌+◌, ◌<◌, ◌≤◌, length, leb, nat_abs};
-ghost use Rattle.listing.specs.Decimal.{decimalOf, signedText};
-ghost use Rattle.listing.specs.Lines.{valuesLine};
+ghost use Rattle.listing.specs.Decimal.{decimal_of, signed_text};
+ghost use Rattle.listing.specs.Lines.{values_line};
 ghost use Rattle.listing.specs.Put.{Wrote};
 
 // Whether a buffer of this size has room for so many bytes from `at` on, wherever `at` is.
@@ -18,7 +18,7 @@ pub fn has_room(size: usize, at: usize, count: usize) -> bool
 // How many digits n has, found with one division. `power` grows only while ten of it are at most n,
 // so it cannot wrap. The bound is there for callers that add counts.
 pub fn digit_count(n: u64) -> usize
-    ensures { (result ≡ length (decimalOf n)) × (result ≤ 20) }
+    ensures { (result ≡ length (decimal_of n)) × (result ≤ 20) }
 {
     let tenth = n / 10;
     let mut power: u64 = 1;
@@ -44,7 +44,7 @@ fn size_of(x: i64) -> u64
 
 // How many bytes x takes with its sign.
 pub fn signed_count(x: i64) -> usize
-    ensures { (result ≡ length (signedText x)) × (result ≤ 21) }
+    ensures { (result ≡ length (signed_text x)) × (result ≤ 21) }
 {
     let count = digit_count(size_of(x));
     if x < 0 {
@@ -69,8 +69,8 @@ pub fn write_bytes(out: &mut [u8], at: usize, bytes: &[u8]) -> usize
 // n and the byte that closes it. The digits come out of n last first, so they are stored from the
 // back, with one division each.
 pub fn write_decimal(out: &mut [u8], at: usize, n: u64, close: u8) -> usize
-    requires { at + length (decimalOf n) < length out.old }
-    ensures { Wrote (decimalOf n ++ (close ∷ [])) at out.old result out.new }
+    requires { at + length (decimal_of n) < length out.old }
+    ensures { Wrote (decimal_of n ++ (close ∷ [])) at out.old result out.new }
 {
     let end = at + digit_count(n);
     let mut place = end;
@@ -87,8 +87,8 @@ pub fn write_decimal(out: &mut [u8], at: usize, n: u64, close: u8) -> usize
 
 // x and the byte that closes it.
 pub fn write_signed(out: &mut [u8], at: usize, x: i64, close: u8) -> usize
-    requires { at + length (signedText x) < length out.old }
-    ensures { Wrote (signedText x ++ (close ∷ [])) at out.old result out.new }
+    requires { at + length (signed_text x) < length out.old }
+    ensures { Wrote (signed_text x ++ (close ∷ [])) at out.old result out.new }
 {
     let size = size_of(x);
     if x < 0 {
@@ -100,15 +100,15 @@ pub fn write_signed(out: &mut [u8], at: usize, x: i64, close: u8) -> usize
 
 // How many bytes a line of three values takes, each with the byte that closes it.
 pub fn values_count(a: i64, b: i64, c: i64) -> usize
-    ensures { result ≡ length (valuesLine a b c) }
+    ensures { result ≡ length (values_line a b c) }
 {
     signed_count(a) + signed_count(b) + signed_count(c) + 3
 }
 
 // A line of three values.
 pub fn write_values(out: &mut [u8], at: usize, a: i64, b: i64, c: i64) -> usize
-    requires { at + length (valuesLine a b c) ≤ length out.old }
-    ensures { Wrote (valuesLine a b c) at out.old result out.new }
+    requires { at + length (values_line a b c) ≤ length out.old }
+    ensures { Wrote (values_line a b c) at out.old result out.new }
 {
     let second = write_signed(out, at, a, b' ');
     let third = write_signed(out, second, b, b' ');

@@ -8,8 +8,8 @@
 pub mod decimals;
 
 ghost use Rattle.std.specs.Prelude.{◌≡◌, ◌+◌, ◌≤◌, length};
-ghost use Rattle.listing.specs.Lines.{namesLine, recordLine, refusedLine, failedLine};
-ghost use Rattle.listing.specs.Put.{afterPut, putOf, Wrote};
+ghost use Rattle.listing.specs.Lines.{names_line, record_line, refused_line, failed_line};
+ghost use Rattle.listing.specs.Put.{after_put, put_of, Wrote};
 
 use crate::decimals::{
     digit_count, has_room, values_count, write_bytes, write_decimal, write_values,
@@ -24,14 +24,14 @@ pub enum Put {
 
 // How many bytes the line of a refusal takes: the word and its space, then two numbers.
 fn refused_count(number: u64, place: u64) -> usize
-    ensures { result ≡ length (refusedLine number place) }
+    ensures { result ≡ length (refused_line number place) }
 {
     8 + digit_count(number) + digit_count(place) + 2
 }
 
 fn write_refused(out: &mut [u8], at: usize, number: u64, place: u64) -> usize
-    requires { at + length (refusedLine number place) ≤ length out.old }
-    ensures { Wrote (refusedLine number place) at out.old result out.new }
+    requires { at + length (refused_line number place) ≤ length out.old }
+    ensures { Wrote (refused_line number place) at out.old result out.new }
 {
     let second = write_bytes(out, at, b"refused ");
     let third = write_decimal(out, second, number, b' ');
@@ -40,7 +40,7 @@ fn write_refused(out: &mut [u8], at: usize, number: u64, place: u64) -> usize
 
 // The names line, which is printed once `traverse.txt` is accepted.
 pub fn put_names(out: &mut [u8], at: usize) -> Put
-    ensures { afterPut result out.new ≡ putOf namesLine at out.old }
+    ensures { after_put result out.new ≡ put_of names_line at out.old }
 {
     if !has_room(out.len(), at, 17) {
         return Put::Full;
@@ -50,7 +50,7 @@ pub fn put_names(out: &mut [u8], at: usize) -> Put
 
 // The line of an accepted record: elapsed seconds, then the ends of the shore height.
 pub fn put_record(out: &mut [u8], at: usize, elapsed: i64, low: i64, high: i64) -> Put
-    ensures { afterPut result out.new ≡ putOf (recordLine elapsed low high) at out.old }
+    ensures { after_put result out.new ≡ put_of (record_line elapsed low high) at out.old }
 {
     let count = values_count(elapsed, low, high);
     if !has_room(out.len(), at, count) {
@@ -61,7 +61,7 @@ pub fn put_record(out: &mut [u8], at: usize, elapsed: i64, low: i64, high: i64) 
 
 // The last line where the input is refused: the refusal's number and its place.
 pub fn put_refused(out: &mut [u8], at: usize, number: u64, place: u64) -> Put
-    ensures { afterPut result out.new ≡ putOf (refusedLine number place) at out.old }
+    ensures { after_put result out.new ≡ put_of (refused_line number place) at out.old }
 {
     let count = refused_count(number, place);
     if !has_room(out.len(), at, count) {
@@ -72,7 +72,7 @@ pub fn put_refused(out: &mut [u8], at: usize, number: u64, place: u64) -> Put
 
 // The last line where the system failed a read. It has no number, so that nothing takes it for a record or a refusal.
 pub fn put_failed(out: &mut [u8], at: usize) -> Put
-    ensures { afterPut result out.new ≡ putOf failedLine at out.old }
+    ensures { after_put result out.new ≡ put_of failed_line at out.old }
 {
     if !has_room(out.len(), at, 7) {
         return Put::Full;

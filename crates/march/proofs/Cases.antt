@@ -7,17 +7,17 @@ use lib.IntN.{ℤ, pos, negsuc}
 use Rattle.records.specs.declared.Check.{Check}
 use Rattle.records.specs.declared.Check.TheVariants.{Pass, Fail}
 use Rattle.records.specs.declared.Kind.TheVariants.{Lent, RecordValue, CalmAngle}
-use Rattle.records.specs.CheckOrder.{firstBad, firstOf}
-use Rattle.records.specs.Groups.{wholes, stationAt, pointAt, rowAt}
-use Rattle.records.specs.Limits.{inside, rangeInside, countOk, headOk, stationOk, secondsOk, pointOk, calmOk, rowOk}
+use Rattle.records.specs.CheckOrder.{first_bad, first_of}
+use Rattle.records.specs.Groups.{wholes, station_at, point_at, row_at}
+use Rattle.records.specs.Limits.{inside, range_inside, count_ok, head_ok, station_ok, seconds_ok, point_ok, calm_ok, row_ok}
 use Rattle.records.specs.Refusals.{refusal}
 use Rattle.records.specs.Shapes.{storm, traverse}
-use Rattle.march.specs.Checks.{spacingOk, traverseChecks, placesOk, lentChecks, timesOk, recordChecks, checksOf}
+use Rattle.march.specs.Checks.{spacing_ok, traverse_checks, places_ok, lent_checks, times_ok, record_checks, checks_of}
 
 -- three points; two rows, of which the second may have a low end; a record of three points, the first and the second with given wind and angle
 abbrev checked : Bool → ℤ → ℤ → ℤ → ℤ → ℤ → ℤ → Check
 checked started seconds low w₁ a₁ w₂ a₂ =
-    firstOf (checksOf 65
+    first_of (checks_of 65
     (traverse (record { latitude = pos 300; friction = pos 25; initial = pos 0 }) (pos 20 ∷ pos 900 ∷ pos 10 ∷ pos 500 ∷ pos 0 ∷ pos 300 ∷ []))
     (storm (record { seconds = seconds; tide = pos 0 }) (w₁ ∷ a₁ ∷ pos 0 ∷ w₂ ∷ a₂ ∷ pos 0 ∷ pos 1 ∷ pos 3599 ∷ pos 0 ∷ []))
     (record { elapsed = pos 0; started = started })
@@ -29,17 +29,17 @@ later = checked true (pos 600) (pos 0)
 
 -- a wind of 0 with angle 0 passes, and so does every other wind with any angle
 calms : later (pos 0) (pos 0) (pos 0) (pos 0) ≡ Pass
-unfolding firstOf firstBad checksOf traverseChecks lentChecks recordChecks wholes stationAt pointAt rowAt inside rangeInside countOk headOk stationOk spacingOk placesOk rowOk timesOk secondsOk pointOk calmOk
+unfolding first_of first_bad checks_of traverse_checks lent_checks record_checks wholes station_at point_at row_at inside range_inside count_ok head_ok station_ok spacing_ok places_ok row_ok times_ok seconds_ok point_ok calm_ok
 calms = refl
 
 -- the first of two calms that have a direction; and the second where the first has none
 two-calms : (later (pos 0) (pos 1) (pos 0) (pos 3599) ∷ later (pos 0) (pos 0) (pos 0) (pos 3599) ∷ []) ≡ (Fail (refusal CalmAngle 1) ∷ Fail (refusal CalmAngle 2) ∷ [])
-unfolding firstOf firstBad checksOf traverseChecks lentChecks recordChecks wholes stationAt pointAt rowAt inside rangeInside countOk headOk stationOk spacingOk placesOk rowOk timesOk secondsOk pointOk calmOk
+unfolding first_of first_bad checks_of traverse_checks lent_checks record_checks wholes station_at point_at row_at inside range_inside count_ok head_ok station_ok spacing_ok places_ok row_ok times_ok seconds_ok point_ok calm_ok
 two-calms = refl
 
 -- a first record's calms are judged too
 first-record : checked false (pos 0) (pos 0) (pos 700) (pos 900) (pos 0) (pos 900) ≡ Fail (refusal CalmAngle 2)
-unfolding firstOf firstBad checksOf traverseChecks lentChecks recordChecks wholes stationAt pointAt rowAt inside rangeInside countOk headOk stationOk spacingOk placesOk rowOk timesOk secondsOk pointOk calmOk
+unfolding first_of first_bad checks_of traverse_checks lent_checks record_checks wholes station_at point_at row_at inside range_inside count_ok head_ok station_ok spacing_ok places_ok row_ok times_ok seconds_ok point_ok calm_ok
 first-record = refl
 
 -- two faults at once: check 9 comes first, at a later point, at the same point (angle 3600) and with place 0 (seconds); and check 8 before both
@@ -47,5 +47,5 @@ pairs :
     (later (pos 0) (pos 5) (pos 2001) (pos 0) ∷ later (pos 0) (pos 3600) (pos 0) (pos 5) ∷ checked true (pos 3601) (pos 0) (pos 0) (pos 5) (pos 0) (pos 0)
     ∷ checked true (pos 600) (pos 1) (pos 0) (pos 5) (negsuc 0) (pos 0) ∷ [])
     ≡ (Fail (refusal RecordValue 2) ∷ Fail (refusal RecordValue 1) ∷ Fail (refusal RecordValue 0) ∷ Fail (refusal Lent 2) ∷ [])
-unfolding firstOf firstBad checksOf traverseChecks lentChecks recordChecks wholes stationAt pointAt rowAt inside rangeInside countOk headOk stationOk spacingOk placesOk rowOk timesOk secondsOk pointOk calmOk
+unfolding first_of first_bad checks_of traverse_checks lent_checks record_checks wholes station_at point_at row_at inside range_inside count_ok head_ok station_ok spacing_ok places_ok row_ok times_ok seconds_ok point_ok calm_ok
 pairs = refl

@@ -7,26 +7,26 @@ use Rattle.records.specs.declared.Check.{Check}
 use Rattle.records.specs.declared.Check.TheVariants.{Pass, Fail}
 use Rattle.records.specs.CheckOrder.{AllPass}
 use Rattle.records.proofs.CheckOrderLaws.{first-passed, first-pass, first-fails, all-or-first}
-use Rattle.march.specs.Checks.{traverseChecks, openOf, checks, checkOf}
+use Rattle.march.specs.Checks.{traverse_checks, open_of, checks, check_of}
 use Rattle.march.specs.March.{March, stopped, done}
-use Rattle.march.specs.Take.{marchGiven, afterChecks, takeOf}
-use Rattle.march.specs.Exact.{isAccepted}
+use Rattle.march.specs.Take.{march_given, after_checks, take_of}
+use Rattle.march.specs.Exact.{is_accepted}
 use Rattle.march.specs.Demand1.{OpenedExactly, Marches, AcceptedExactly, Demand1}
 
 pub opened-exactly : OpenedExactly
-unfolding openOf
+unfolding open_of
 opened-exactly most t = record {
-  either = all-or-first (traverseChecks most t);
-  opens = λ v. rw (first-pass (traverseChecks most t) v);
-  refuses = λ f. rw (first-fails (traverseChecks most t) f);
+  either = all-or-first (traverse_checks most t);
+  opens = λ v. rw (first-pass (traverse_checks most t) v);
+  refuses = λ f. rw (first-fails (traverse_checks most t) f);
 }
 
 pub accepted-exactly : AcceptedExactly
-unfolding takeOf
+unfolding take_of
 accepted-exactly g = record {
   either = all-or-first (checks g);
   accepts = λ v m. rw (first-pass (checks g) v, m.is);
-  passes = go (checkOf g) (marchGiven g) refl refl;
+  passes = go (check_of g) (march_given g) refl refl;
   refuses = λ f. rw (first-fails (checks g) f);
   stops = λ refusal v e. rw (first-pass (checks g) v, e);
 }
@@ -34,7 +34,7 @@ accepted-exactly g = record {
     never : false ≡ true → ⊥
     never e = let z : ◌≡◌ {A = ℕ} 0 1 = ap (λ (b : Bool). cond b 1 0) e in omega arith
 
-    go : (k : Check) (m : March) → checkOf g ≡ k → marchGiven g ≡ m → isAccepted (afterChecks (checkOf g) g).answer ≡ true → AllPass (checks g) × Marches g
+    go : (k : Check) (m : March) → check_of g ≡ k → march_given g ≡ m → is_accepted (after_checks (check_of g) g).answer ≡ true → AllPass (checks g) × Marches g
     go (Fail refusal) m e f a = absurd (never (rw e at a))
     go Pass (stopped refusal) e f a = absurd (never (rw (e, f) at a))
     go Pass (done legs) e f a = (first-passed (checks g) e, record { legs = legs; is = f })

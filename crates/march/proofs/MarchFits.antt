@@ -14,8 +14,8 @@ use Rattle.ranges.specs.Bounds.{Sized}
 use Rattle.ranges.proofs.Fits.{sized-add, sized-sub, sized-fits}
 use Rattle.ranges.proofs.LinearSolver.{zomega, zomega₀, says, ◌&◌}
 use Rattle.ranges.proofs.IntegerOrder.{le_trans}
-use Rattle.forcing.specs.Sine.{sineEntry}
-use Rattle.forcing.specs.Quadrant.{Angle, signed, sineOf}
+use Rattle.forcing.specs.Sine.{sine_entry}
+use Rattle.forcing.specs.Quadrant.{Angle, signed, sine_of}
 use Rattle.forcing.specs.declared.sines.Place.{Place}
 use Rattle.forcing.proofs.SineTable.{entry-rule}
 use Rattle.forcing.proofs.QuadrantLaws.{sine-sized, place_in, first}
@@ -25,7 +25,7 @@ use Rattle.records.specs.declared.Closing.{Closing}
 use Rattle.records.specs.declared.Station.{Station}
 use Rattle.records.specs.declared.Point.{Point}
 use Rattle.records.specs.declared.Row.{Row}
-use Rattle.records.specs.Groups.{rowAt}
+use Rattle.records.specs.Groups.{row_at}
 use Rattle.records.specs.Shapes.{Traverse, Record, count}
 use Rattle.records.proofs.GroupLaws.{wholes-fit}
 use Rattle.records.proofs.LimitLaws.{sized, nn-sized}
@@ -36,7 +36,7 @@ use Rattle.march.specs.declared.State.{State}
 use Rattle.march.specs.declared.End.{End}
 use Rattle.march.specs.declared.Setting.{Setting}
 use Rattle.march.specs.Given.{segments}
-use Rattle.march.specs.March.{siteAt, weatherAt, workingRow, endOf, endAt, settingOf, siteBetween, weatherBetween, chosenRow}
+use Rattle.march.specs.March.{site_at, weather_at, working_row, end_of, end_at, setting_of, site_between, weather_between, chosen_row}
 use Rattle.march.specs.MarchBounds.{StationIn, PointIn, EndIn, SettingFits, BetweenIn, SettingIn, MarchIn}
 use Rattle.march.proofs.ChecksPassed.{Passed}
 
@@ -52,7 +52,7 @@ module _ {p : Point} (i : PointIn p) where
   pub deficit-fits : SFits w64 p.deficit
   deficit-fits = sized-fits (le_z_yes tt) i.deficit
 
-pub end-in : {a : Station} {p : Point} → StationIn a → PointIn p → EndIn (endOf a p)
+pub end-in : {a : Station} {p : Point} → StationIn a → PointIn p → EndIn (end_of a p)
 end-in {a} {p} i j = record {
   distance = i.distance;
   depth = i.depth;
@@ -89,11 +89,11 @@ pub zero-setup : SetupIn (record { low = pos 0; high = pos 0 })
 zero-setup = record { low = zero-sized 1000000; high = zero-sized 1000000 }
 
 -- the fresh row is within its limits, so the row that a segment works from is
-chosen-in : (first : Bool) (v : Row) → RowIn v → RowIn (chosenRow first v)
+chosen-in : (first : Bool) (v : Row) → RowIn v → RowIn (chosen_row first v)
 chosen-in true v i = record { low = zero-sized 1000000; high = zero-sized 1000000; cross = zero-sized 2572800000000 }
 chosen-in false v i = i
 
-pub between_in : (k : Setting) (a b : End) (v : Row) (s : Range) → BetweenIn k a b v s → SegmentIn (siteBetween k a b) (weatherBetween k a b) (chosenRow k.first v) s
+pub between_in : (k : Setting) (a b : End) (v : Row) (s : Range) → BetweenIn k a b v s → SegmentIn (site_between k a b) (weather_between k a b) (chosen_row k.first v) s
 between_in k a b v s i = record {
   site = record {
     length-low = i.length.low;
@@ -117,7 +117,7 @@ between_in k a b v s i = record {
 }
 
 pub between-in-by : (k : Setting) (a b : End) (v : Row) (s : Range) (site : Site) (weather : Weather) (row : Row) →
-    site ≡ siteBetween k a b → weather ≡ weatherBetween k a b → row ≡ chosenRow k.first v → BetweenIn k a b v s → SegmentIn site weather row s
+    site ≡ site_between k a b → weather ≡ weather_between k a b → row ≡ chosen_row k.first v → BetweenIn k a b v s → SegmentIn site weather row s
 between-in-by k a b v s site weather row e f g i = rw (e, f, g) (between_in k a b v s i)
 
 -- ---- the setting
@@ -130,14 +130,14 @@ module _ (h : Head) (c : Closing) (i : SettingIn h c) where
   pub level_in : Sized (pos 3000) (h.initial +ℤ c.tide)
   level_in = sized-add i.initial i.tide
 
-  latitude-sine : pos 0 ≤ℤ sineOf h.latitude
-  unfolding sineOf
+  latitude-sine : pos 0 ≤ℤ sine_of h.latitude
+  unfolding sine_of
   latitude-sine =
       let q = first h.latitude latitude-angle i.latitude-high in
-      subst (λ (p : Place). pos 0 ≤ℤ signed p.negative (sineEntry p.at)) (sym q.is)
+      subst (λ (p : Place). pos 0 ≤ℤ signed p.negative (sine_entry p.at)) (sym q.is)
       (entry-rule (nat_abs h.latitude) (subst (λ (p : Place). p.at < 901) q.is (place_in h.latitude latitude-angle))).low
 
-  pub setting-fits : (first : Bool) → SettingFits (settingOf h c first)
+  pub setting-fits : (first : Bool) → SettingFits (setting_of h c first)
   setting-fits first = record {
     sine-low = latitude-sine;
     sine = sine-sized h.latitude latitude-angle;
@@ -151,8 +151,8 @@ module _ (h : Head) (c : Closing) (i : SettingIn h c) where
 -- ---- the same of the whole traverse and record: what segment i is given
 
 module _ (t : Traverse) (r : Record) (rows : List ℤ) (n : ℕ) (first : Bool) (m : MarchIn t r rows n) (i : ℕ) (h : i < n) where
-  pub march-between : (s : Range) → SetupIn s → BetweenIn (settingOf t.head r.closing first) (endAt t.points r.points i) (endAt t.points r.points (i + 1)) (rowAt rows i) s
-  unfolding endAt
+  pub march-between : (s : Range) → SetupIn s → BetweenIn (setting_of t.head r.closing first) (end_at t.points r.points i) (end_at t.points r.points (i + 1)) (row_at rows i) s
+  unfolding end_at
   march-between s s-in = record {
     setting = setting-fits t.head r.closing m.setting first;
     sea = end-in (m.stations i (omega arith)) (m.points i (omega arith));
@@ -162,8 +162,8 @@ module _ (t : Traverse) (r : Record) (rows : List ℤ) (n : ℕ) (first : Bool) 
     setup-in = s-in;
   }
 
-  pub march-segment-in : (s : Range) → SetupIn s → SegmentIn (siteAt t i) (weatherAt t r i) (workingRow t first rows i) s
-  unfolding endAt
+  pub march-segment-in : (s : Range) → SetupIn s → SegmentIn (site_at t i) (weather_at t r i) (working_row t first rows i) s
+  unfolding end_at
   march-segment-in s s-in = between_in _ _ _ _ s (march-between s s-in)
 
 -- ---- what the checks let pass is what the march asks

@@ -1,7 +1,7 @@
 -- What a call answers, in document 01's terms: for each case of the code's enums, this paper's number and values. The promises of the calls open
 -- to callers are stated with these.
 use Rattle.std.specs.Prelude.{ℕ, ℤ}
-use Rattle.records.specs.Refusals.{numberOf}
+use Rattle.records.specs.Refusals.{number_of}
 use Rattle.records.specs.declared.Check.{Check}
 use Rattle.records.specs.declared.Check.TheVariants.{Pass, Fail}
 use Rattle.march.specs.declared.Answer.{Answer}
@@ -12,15 +12,15 @@ pub data Told : Type 0 where
   accepted : ℤ → ℤ → ℤ → Told
   refused : ℕ → ℕ → Told
 
-abbrev pub toldOf : Answer → Told
-toldOf (Accepted elapsed low high) = accepted elapsed low high
-toldOf (Refused refusal) = refused (numberOf refusal.kind) refusal.place
+abbrev pub told_of : Answer → Told
+told_of (Accepted elapsed low high) = accepted elapsed low high
+told_of (Refused refusal) = refused (number_of refusal.kind) refusal.place
 
 -- a traverse
 pub data ToldOpen : Type 0 where
   opened : ToldOpen
-  notOpened : ℕ → ℕ → ToldOpen
+  not_opened : ℕ → ℕ → ToldOpen
 
-abbrev pub toldOpen : Check → ToldOpen
-toldOpen Pass = opened
-toldOpen (Fail refusal) = notOpened (numberOf refusal.kind) refusal.place
+abbrev pub told_open : Check → ToldOpen
+told_open Pass = opened
+told_open (Fail refusal) = not_opened (number_of refusal.kind) refusal.place

@@ -9,7 +9,7 @@ use Rattle.records.specs.declared.Closing.{Closing}
 use Rattle.records.specs.declared.Station.{Station}
 use Rattle.records.specs.declared.Point.{Point}
 use Rattle.records.specs.declared.Row.{Row}
-use Rattle.records.specs.Groups.{stationAt, pointAt, rowAt}
+use Rattle.records.specs.Groups.{station_at, point_at, row_at}
 use Rattle.records.specs.Shapes.{Traverse, Record}
 use Rattle.segment.specs.Segment.{RowIn, SetupIn}
 use Rattle.march.specs.declared.End.{End}
@@ -70,7 +70,7 @@ pub record MarchIn (t : Traverse) (r : Record) (rows : List ℤ) (n : ℕ) : Typ
   pub record-long : 3 * (n + 1) ≤ length r.points
   pub rows_long : 3 * n ≤ length rows
   pub setting : SettingIn t.head r.closing
-  pub stations : (i : ℕ) → i < n + 1 → StationIn (stationAt t.points i)
-  pub lengths : (i : ℕ) → i < n → LengthIn (stationAt t.points i).distance (stationAt t.points (i + 1)).distance
-  pub points : (i : ℕ) → i < n + 1 → PointIn (pointAt r.points i)
-  pub each_row : (i : ℕ) → i < n → RowIn (rowAt rows i)
+  pub stations : (i : ℕ) → i < n + 1 → StationIn (station_at t.points i)
+  pub lengths : (i : ℕ) → i < n → LengthIn (station_at t.points i).distance (station_at t.points (i + 1)).distance
+  pub points : (i : ℕ) → i < n + 1 → PointIn (point_at r.points i)
+  pub each_row : (i : ℕ) → i < n → RowIn (row_at rows i)

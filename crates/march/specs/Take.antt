@@ -2,20 +2,20 @@
 use Rattle.std.specs.Prelude.{true, cond, not, List, [], ◌-◌, eqb, length, get_or, ℤ, ◌+ℤ◌}
 use Rattle.ranges.specs.declared.Range.{Range}
 use Rattle.records.specs.declared.Refusal.{Refusal}
-use Rattle.records.specs.Refusals.{numberOf}
-use Rattle.records.specs.Groups.{pointAt, ofRow, ofRange, flat}
-use Rattle.records.specs.Rows.{freshRow}
+use Rattle.records.specs.Refusals.{number_of}
+use Rattle.records.specs.Groups.{point_at, of_row, of_range, flat}
+use Rattle.records.specs.Rows.{fresh_row}
 use Rattle.records.specs.Shapes.{Traverse, Record}
 use Rattle.records.specs.declared.Check.{Check}
 use Rattle.records.specs.declared.Check.TheVariants.{Pass, Fail}
 use Rattle.segment.specs.declared.Leg.{Leg}
-use Rattle.segment.specs.Segment.{shoreBase}
+use Rattle.segment.specs.Segment.{shore_base}
 use Rattle.march.specs.declared.State.{State}
 use Rattle.march.specs.declared.Taken.{Taken}
-use Rattle.march.specs.Answers.{Told, accepted, refused, toldOf}
+use Rattle.march.specs.Answers.{Told, accepted, refused, told_of}
 use Rattle.march.specs.Given.{Given, segments}
-use Rattle.march.specs.Checks.{checkOf}
-use Rattle.march.specs.March.{March, stopped, done, marchOf, noSetup, levelOf}
+use Rattle.march.specs.Checks.{check_of}
+use Rattle.march.specs.March.{March, stopped, done, march_of, no_setup, level_of}
 
 -- all that a call leaves: its answer, the state, the lent rows and the lent setup places
 pub record Left : Type 0 where
@@ -27,64 +27,64 @@ pub record Left : Type 0 where
 -- ---- of an accepted record
 
 -- the rows that the legs left
-abbrev pub rowNumbers : List Leg → List ℤ
-rowNumbers = flat (λ (leg : Leg). ofRow leg.row)
+abbrev pub row_numbers : List Leg → List ℤ
+row_numbers = flat (λ (leg : Leg). of_row leg.row)
 
 -- "the setup range after each segment, low then high"
-abbrev pub setupNumbers : List Leg → List ℤ
-setupNumbers = flat (λ (leg : Leg). ofRange leg.setup)
+abbrev pub setup_numbers : List Leg → List ℤ
+setup_numbers = flat (λ (leg : Leg). of_range leg.setup)
 
-abbrev pub noLeg : Leg
-noLeg = record { row = freshRow; setup = noSetup }
+abbrev pub no_leg : Leg
+no_leg = record { row = fresh_row; setup = no_setup }
 
 -- the setup after the last segment
-abbrev pub lastSetup : List Leg → Range
-lastSetup legs = (get_or legs (length legs - 1) noLeg).setup
+abbrev pub last_setup : List Leg → Range
+last_setup legs = (get_or legs (length legs - 1) no_leg).setup
 
 -- what the shore height has beside it: the deficit is that at the shore point
-abbrev pub shoreOf : Traverse → Record → ℤ
-shoreOf t r = shoreBase (levelOf t r) (pointAt r.points (segments t)).deficit
+abbrev pub shore_of : Traverse → Record → ℤ
+shore_of t r = shore_base (level_of t r) (point_at r.points (segments t)).deficit
 
-abbrev pub heightOf : Traverse → Record → Range → Range
-heightOf t r s = record { low = s.low +ℤ shoreOf t r; high = s.high +ℤ shoreOf t r }
+abbrev pub height_of : Traverse → Record → Range → Range
+height_of t r s = record { low = s.low +ℤ shore_of t r; high = s.high +ℤ shore_of t r }
 
 -- "The state holds the elapsed seconds .., to which each accepted record adds its Δt, and whether a first record was accepted"
-abbrev pub laterState : Record → State → State
-laterState r st = record { elapsed = st.elapsed +ℤ r.closing.seconds; started = true }
+abbrev pub later_state : Record → State → State
+later_state r st = record { elapsed = st.elapsed +ℤ r.closing.seconds; started = true }
 
-abbrev pub acceptedAnswer : Given → List Leg → Told
-acceptedAnswer g legs =
-    accepted (laterState g.storm g.state).elapsed (heightOf g.traverse g.storm (lastSetup legs)).low (heightOf g.traverse g.storm (lastSetup legs)).high
+abbrev pub accepted_answer : Given → List Leg → Told
+accepted_answer g legs =
+    accepted (later_state g.storm g.state).elapsed (height_of g.traverse g.storm (last_setup legs)).low (height_of g.traverse g.storm (last_setup legs)).high
 
-abbrev pub leftAccepted : Given → List Leg → Left
-leftAccepted g legs = record {
-  answer = acceptedAnswer g legs;
-  state = laterState g.storm g.state;
-  rows = rowNumbers legs;
-  setup = cond (eqb (length g.setup) 0) [] (setupNumbers legs);
+abbrev pub left_accepted : Given → List Leg → Left
+left_accepted g legs = record {
+  answer = accepted_answer g legs;
+  state = later_state g.storm g.state;
+  rows = row_numbers legs;
+  setup = cond (eqb (length g.setup) 0) [] (setup_numbers legs);
 }
 
 -- ---- "A refused record leaves rows, setup buffer and the whole state as before it"
 
-abbrev pub leftRefused : Given → Refusal → Left
-leftRefused g refusal = record { answer = refused (numberOf refusal.kind) refusal.place; state = g.state; rows = g.rows; setup = g.setup }
+abbrev pub left_refused : Given → Refusal → Left
+left_refused g refusal = record { answer = refused (number_of refusal.kind) refusal.place; state = g.state; rows = g.rows; setup = g.setup }
 
 -- ---- taking a record: checks 5 to 9 and 18, then the march over all segments
 
-abbrev pub marchGiven : Given → March
-marchGiven g = marchOf g.traverse g.storm (not g.state.started) g.rows (segments g.traverse)
+abbrev pub march_given : Given → March
+march_given g = march_of g.traverse g.storm (not g.state.started) g.rows (segments g.traverse)
 
-abbrev pub afterMarch : March → Given → Left
-afterMarch (stopped refusal) g = leftRefused g refusal
-afterMarch (done legs) g = leftAccepted g legs
+abbrev pub after_march : March → Given → Left
+after_march (stopped refusal) g = left_refused g refusal
+after_march (done legs) g = left_accepted g legs
 
-abbrev pub afterChecks : Check → Given → Left
-afterChecks (Fail refusal) g = leftRefused g refusal
-afterChecks Pass g = afterMarch (marchGiven g) g
+abbrev pub after_checks : Check → Given → Left
+after_checks (Fail refusal) g = left_refused g refusal
+after_checks Pass g = after_march (march_given g) g
 
-unfoldable pub takeOf : Given → Left
-takeOf g = afterChecks (checkOf g) g
+unfoldable pub take_of : Given → Left
+take_of g = after_checks (check_of g) g
 
 -- what the code answers and leaves
 abbrev pub left : Taken → List ℤ → List ℤ → Left
-left x rows setup = record { answer = toldOf x.answer; state = x.state; rows = rows; setup = setup }
+left x rows setup = record { answer = told_of x.answer; state = x.state; rows = rows; setup = setup }

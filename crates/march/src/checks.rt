@@ -2,10 +2,10 @@
 // All that is looked at is the caller's and may hold anything; nothing overflows on it and nothing past a slice is read.
 ghost use Rattle.std.specs.Prelude.{◌≡◌, ◌&&◌, ◌||◌, not, ◌+◌, ◌-◌, ◌*◌, ◌≤◌, ◌<◌, eqb, length, pos, ◌-ℤ◌};
 ghost use Rattle.ranges.specs.Bounds.{Sized};
-ghost use Rattle.records.specs.Limits.{lengthOk, shoreOk, mostPoints};
+ghost use Rattle.records.specs.Limits.{length_ok, shore_ok, most_points};
 ghost use Rattle.records.specs.Shapes.{traverse, storm};
-ghost use Rattle.records.specs.CheckOrder.{firstBad, firstOf};
-ghost use Rattle.march.specs.Checks.{stationsOk, spacingOk, traverseCheck, openOf, openedBy, placesOk, rowsOk, lentCheck, timesOk, pointsOk, calmsOk, recordCheck, checksOf};
+ghost use Rattle.records.specs.CheckOrder.{first_bad, first_of};
+ghost use Rattle.march.specs.Checks.{stations_ok, spacing_ok, traverse_check, open_of, opened_by, places_ok, rows_ok, lent_check, times_ok, points_ok, calms_ok, record_check, checks_of};
 
 use super::{Call, Opened, State};
 use records::groups::{point_at, row_at, station_at, whole_groups};
@@ -20,7 +20,7 @@ use records::{Check, Closing, Head, Kind, Point, Refusal, Row, Station};
 // Check 6, the points: the first of n that is bad, from 1; 0 where there is none.
 pub fn bad_station(points: &[i64], n: usize) -> usize
     requires { 2 * n ≤ length points.now }
-    ensures { result ≡ firstBad (stationsOk points.now) n 0 }
+    ensures { result ≡ first_bad (stations_ok points.now) n 0 }
 {
     let mut i = 0;
     while i < n {
@@ -46,7 +46,7 @@ pub fn place_before(i: usize) -> usize
 // The rule of distances at place i of n, from the distance before it and its own. The first place has none before it.
 pub fn spacing_ok(i: usize, n: usize, before: i64, here: i64) -> bool
     requires { (i < n) × ((Sized (pos 6400) before) × (Sized (pos 6400) here)) }
-    ensures { result ≡ ((eqb i 0 || lengthOk (before -ℤ here)) && (not (eqb (i + 1) n) || shoreOk here)) }
+    ensures { result ≡ ((eqb i 0 || length_ok (before -ℤ here)) && (not (eqb (i + 1) n) || shore_ok here)) }
 {
     if !length_ok(i, before, here) {
         return false;
@@ -59,7 +59,7 @@ pub fn spacing_ok(i: usize, n: usize, before: i64, here: i64) -> bool
 
 pub fn length_ok(i: usize, before: i64, here: i64) -> bool
     requires { (Sized (pos 6400) before) × (Sized (pos 6400) here) }
-    ensures { result ≡ (eqb i 0 || lengthOk (before -ℤ here)) }
+    ensures { result ≡ (eqb i 0 || length_ok (before -ℤ here)) }
 {
     if i == 0 {
         return true;
@@ -69,8 +69,8 @@ pub fn length_ok(i: usize, before: i64, here: i64) -> bool
 
 // Check 7, after check 6: no difference of distances overflows.
 pub fn bad_spacing(points: &[i64], n: usize) -> usize
-    requires { (2 * n ≤ length points.now) × (firstBad (stationsOk points.now) n 0 ≡ 0) }
-    ensures { result ≡ firstBad (spacingOk n points.now) n 0 }
+    requires { (2 * n ≤ length points.now) × (first_bad (stations_ok points.now) n 0 ≡ 0) }
+    ensures { result ≡ first_bad (spacing_ok n points.now) n 0 }
 {
     let mut i = 0;
     while i < n {
@@ -86,7 +86,7 @@ pub fn bad_spacing(points: &[i64], n: usize) -> usize
 
 // Checks 5 to 7, where a traverse may have `most` points.
 pub fn check_traverse(most: usize, head: Head, points: &[i64]) -> Check
-    ensures { result ≡ traverseCheck most (traverse head points.now) }
+    ensures { result ≡ traverse_check most (traverse head points.now) }
 {
     let n = whole_groups(Station::NUMBERS, points.len());
     if !count_ok(most, n) {
@@ -111,7 +111,7 @@ pub fn check_traverse(most: usize, head: Head, points: &[i64]) -> Check
 
 // Opening a traverse: no row is read or written. Open to callers: every argument may be anything whatever.
 pub fn open_traverse(head: Head, points: &[i64]) -> Opened
-    ensures { openedBy result ≡ openOf mostPoints (traverse head points.now) }
+    ensures { opened_by result ≡ open_of most_points (traverse head points.now) }
 {
     let check = check_traverse(POINTS_MOST, head, points);
     Opened {
@@ -127,7 +127,7 @@ pub fn open_traverse(head: Head, points: &[i64]) -> Opened
 
 // Setup places: none, or two for each of n segments. Tested without a product that could overflow.
 pub fn places_ok(places: usize, n: usize) -> bool
-    ensures { result ≡ placesOk places n }
+    ensures { result ≡ places_ok places n }
 {
     if places == 0 {
         return true;
@@ -140,7 +140,7 @@ pub fn places_ok(places: usize, n: usize) -> bool
 
 pub fn bad_row(rows: &[i64], n: usize) -> usize
     requires { 3 * n ≤ length rows.now }
-    ensures { result ≡ firstBad (rowsOk rows.now) n 0 }
+    ensures { result ≡ first_bad (rows_ok rows.now) n 0 }
 {
     let mut i = 0;
     while i < n {
@@ -156,7 +156,7 @@ pub fn bad_row(rows: &[i64], n: usize) -> usize
 // Check 8 for a traverse of so many points, a record of `given` points and so many setup places.
 pub fn check_lent(points: usize, given: usize, rows: &[i64], places: usize) -> Check
     requires { 2 ≤ points }
-    ensures { result ≡ lentCheck points given rows.now places }
+    ensures { result ≡ lent_check points given rows.now places }
 {
     let n = whole_groups(Row::NUMBERS, rows.len());
     if n != points - 1 {
@@ -185,7 +185,7 @@ pub fn check_lent(points: usize, given: usize, rows: &[i64], places: usize) -> C
 
 // Check 9 before the points. The new elapsed time is formed only of numbers that passed, so that it fits.
 pub fn times_ok(closing: Closing, st: State) -> bool
-    ensures { result ≡ timesOk closing st }
+    ensures { result ≡ times_ok closing st }
 {
     let seconds = closing.seconds;
     let elapsed = st.elapsed;
@@ -204,7 +204,7 @@ pub fn times_ok(closing: Closing, st: State) -> bool
 // Check 9, the points.
 pub fn bad_point(winds: &[i64], n: usize) -> usize
     requires { 3 * n ≤ length winds.now }
-    ensures { result ≡ firstBad (pointsOk winds.now) n 0 }
+    ensures { result ≡ first_bad (points_ok winds.now) n 0 }
 {
     let mut i = 0;
     while i < n {
@@ -220,7 +220,7 @@ pub fn bad_point(winds: &[i64], n: usize) -> usize
 // Check 18: the first of n points where a calm has a direction.
 pub fn bad_calm(winds: &[i64], n: usize) -> usize
     requires { 3 * n ≤ length winds.now }
-    ensures { result ≡ firstBad (calmsOk winds.now) n 0 }
+    ensures { result ≡ first_bad (calms_ok winds.now) n 0 }
 {
     let mut i = 0;
     while i < n {
@@ -236,7 +236,7 @@ pub fn bad_calm(winds: &[i64], n: usize) -> usize
 // Checks 9 and 18 for a traverse of so many points: all points by 9, then all by 18.
 pub fn check_record(points: usize, closing: Closing, winds: &[i64], st: State) -> Check
     requires { 3 * points ≤ length winds.now }
-    ensures { result ≡ recordCheck points (storm closing winds.now) st }
+    ensures { result ≡ record_check points (storm closing winds.now) st }
 {
     if !times_ok(closing, st) {
         return Check::Fail(Refusal {
@@ -263,7 +263,7 @@ pub fn check_all(
     rows: &[i64],
     places: usize,
 ) -> Check
-    ensures { result ≡ firstOf (checksOf most (traverse call.head points.now) (storm call.closing winds.now) call.state rows.now places) }
+    ensures { result ≡ first_of (checks_of most (traverse call.head points.now) (storm call.closing winds.now) call.state rows.now places) }
 {
     let head = call.head;
     let closing = call.closing;

@@ -2,8 +2,8 @@
 // And the setup places, two numbers a segment.
 ghost use Rattle.std.specs.Prelude.{◌≡◌, ◌+◌, ◌*◌, ◌<◌, length};
 ghost use Rattle.std.proofs.lemmas.List.Edits.{sets};
-ghost use Rattle.records.specs.Groups.{ofRange};
-ghost use Rattle.march.specs.March.{legAt, putLeg};
+ghost use Rattle.records.specs.Groups.{of_range};
+ghost use Rattle.march.specs.March.{leg_at, put_leg};
 
 use ranges::Range;
 use records::Row;
@@ -14,7 +14,7 @@ pub const NUMBERS: usize = 5;
 
 pub fn leg_at(work: &[i64], i: usize) -> Leg
     requires { 5 * i + 4 < length work.now }
-    ensures { result ≡ legAt work.now i }
+    ensures { result ≡ leg_at work.now i }
 {
     let at = NUMBERS * i;
     let low = work[at];
@@ -37,7 +37,7 @@ pub fn leg_at(work: &[i64], i: usize) -> Leg
 
 pub fn store_leg(work: &mut [i64], i: usize, leg: Leg)
     requires { 5 * i + 4 < length work.old }
-    ensures { work.new ≡ putLeg work.old i leg }
+    ensures { work.new ≡ put_leg work.old i leg }
 {
     let at = NUMBERS * i;
     let row = leg.row;
@@ -56,7 +56,7 @@ pub fn store_leg(work: &mut [i64], i: usize, leg: Leg)
 
 pub fn store_setup(setup: &mut [i64], i: usize, range: Range)
     requires { 2 * i + 1 < length setup.old }
-    ensures { setup.new ≡ sets setup.old (2 * i) (ofRange range) }
+    ensures { setup.new ≡ sets setup.old (2 * i) (of_range range) }
 {
     let at = 2 * i;
     let low = range.low;

@@ -2,9 +2,9 @@
 // wind's stress worked out once, for the segment that ends there and the one that begins.
 ghost use Rattle.std.specs.Prelude.{◌≡◌, not, ◌+◌, ◌*◌, ◌≤◌, ◌<◌, length};
 ghost use Rattle.forcing.specs.Sine.{TableRight};
-ghost use Rattle.records.specs.Groups.{pointAt};
+ghost use Rattle.records.specs.Groups.{point_at};
 ghost use Rattle.records.specs.Shapes.{traverse, storm};
-ghost use Rattle.march.specs.March.{endAt, settingOf, siteBetween, weatherBetween, chosenRow, segmentBetween, marchOf, legsOf, marched};
+ghost use Rattle.march.specs.March.{end_at, setting_of, site_between, weather_between, chosen_row, segment_between, march_of, legs_of, marched};
 ghost use Rattle.march.specs.MarchBounds.{PointIn, EndIn, BetweenIn, SettingIn, MarchIn};
 
 use super::legs::store_leg;
@@ -17,8 +17,8 @@ use segment::{SegmentAnswer, Site, Weather, march_segment};
 // Point i, from 0, as the end of a segment. It belongs into the march's loop: called from there, it makes a record of few segments slower.
 #[inline(always)]
 pub fn end_at(table: &[u16; 901], points: &[i64], winds: &[i64], i: usize) -> End
-    requires { (TableRight table.now) × ((2 * i + 1 < length points.now) × ((3 * i + 2 < length winds.now) × (PointIn (pointAt winds.now i)))) }
-    ensures { result ≡ endAt points.now winds.now i }
+    requires { (TableRight table.now) × ((2 * i + 1 < length points.now) × ((3 * i + 2 < length winds.now) × (PointIn (point_at winds.now i)))) }
+    ensures { result ≡ end_at points.now winds.now i }
 {
     let station = station_at(points, i);
     let point = point_at(winds, i);
@@ -35,7 +35,7 @@ pub fn end_at(table: &[u16; 901], points: &[i64], winds: &[i64], i: usize) -> En
 // What the traverse gives the segment between two ends.
 pub fn site_between(k: Setting, sea: End, shore: End) -> Site
     requires { (EndIn sea) × (EndIn shore) }
-    ensures { result ≡ siteBetween k sea shore }
+    ensures { result ≡ site_between k sea shore }
 {
     Site {
         length: sea.distance - shore.distance,
@@ -48,7 +48,7 @@ pub fn site_between(k: Setting, sea: End, shore: End) -> Site
 // And what the record gives it.
 pub fn weather_between(k: Setting, sea: End, shore: End) -> Weather
     requires { (EndIn sea) × (EndIn shore) }
-    ensures { result ≡ weatherBetween k sea shore }
+    ensures { result ≡ weather_between k sea shore }
 {
     Weather {
         seconds: k.seconds,
@@ -61,7 +61,7 @@ pub fn weather_between(k: Setting, sea: End, shore: End) -> Weather
 
 // The first record works as if all rows were fresh.
 pub fn chosen_row(first: bool, row: Row) -> Row
-    ensures { result ≡ chosenRow first row }
+    ensures { result ≡ chosen_row first row }
 {
     if first {
         return Row::fresh();
@@ -79,7 +79,7 @@ pub fn segment_between(
     setup: Range,
 ) -> SegmentAnswer
     requires { BetweenIn k sea shore row setup }
-    ensures { result ≡ segmentBetween place k sea shore row setup }
+    ensures { result ≡ segment_between place k sea shore row setup }
 {
     let site = site_between(k, sea, shore);
     let weather = weather_between(k, sea, shore);
@@ -96,7 +96,7 @@ pub fn segment_between(
 // What is the same for every segment.
 pub fn setting_of(table: &[u16; 901], call: Call) -> Setting
     requires { (TableRight table.now) × (SettingIn call.head call.closing) }
-    ensures { result ≡ settingOf call.head call.closing (not call.state.started) }
+    ensures { result ≡ setting_of call.head call.closing (not call.state.started) }
 {
     let head = call.head;
     let closing = call.closing;
@@ -120,7 +120,7 @@ pub fn march(
     work: &mut [i64],
 ) -> Check
     requires { (MarchIn (traverse call.head points.now) (storm call.closing winds.now) rows.now n) × (5 * n ≤ length work.old) }
-    ensures { marched result (legsOf work.new n) ≡ marchOf (traverse call.head points.now) (storm call.closing winds.now) (not call.state.started) rows.now n }
+    ensures { marched result (legs_of work.new n) ≡ march_of (traverse call.head points.now) (storm call.closing winds.now) (not call.state.started) rows.now n }
 {
     let table = forcing::sine_table();
     let k = setting_of(&table, call);

@@ -1,12 +1,12 @@
 // Taking a record: checks, march, and only then the commit to rows and setup places.
 ghost use Rattle.std.specs.Prelude.{◌≡◌, ◌*◌, ◌≤◌, length};
-ghost use Rattle.records.specs.Limits.{mostPoints};
+ghost use Rattle.records.specs.Limits.{most_points};
 ghost use Rattle.records.specs.Shapes.{traverse, storm};
 ghost use Rattle.march.specs.Given.{given, segments};
-ghost use Rattle.march.specs.March.{legsOf};
+ghost use Rattle.march.specs.March.{legs_of};
 ghost use Rattle.march.specs.MarchBounds.{MarchIn};
-ghost use Rattle.march.specs.Take.{rowNumbers, setupNumbers, shoreOf, takeOf, left};
-ghost use Rattle.march.specs.TakeBounds.{mostSegments, AcceptIn, acceptedBy};
+ghost use Rattle.march.specs.Take.{row_numbers, setup_numbers, shore_of, take_of, left};
+ghost use Rattle.march.specs.TakeBounds.{most_segments, AcceptIn, accepted_by};
 
 use super::checks::check_all;
 use super::legs::{leg_at, store_setup};
@@ -19,7 +19,7 @@ use records::{Check, Row};
 // The rows of n segments.
 pub fn commit_rows(rows: &mut [i64], work: &[i64], n: usize)
     requires { (length rows.old ≡ 3 * n) × (5 * n ≤ length work.now) }
-    ensures { rows.new ≡ rowNumbers (legsOf work.now n) }
+    ensures { rows.new ≡ row_numbers (legs_of work.now n) }
 {
     let mut i = 0;
     while i < n {
@@ -33,7 +33,7 @@ pub fn commit_rows(rows: &mut [i64], work: &[i64], n: usize)
 // The setup ranges of k segments, low then high.
 pub fn commit_setup(setup: &mut [i64], work: &[i64], k: usize)
     requires { (length setup.old ≡ 2 * k) × (5 * k ≤ length work.now) }
-    ensures { setup.new ≡ setupNumbers (legsOf work.now k) }
+    ensures { setup.new ≡ setup_numbers (legs_of work.now k) }
 {
     let mut i = 0;
     while i < k {
@@ -47,7 +47,7 @@ pub fn commit_setup(setup: &mut [i64], work: &[i64], k: usize)
 // What the shore height has beside the setup, of n segments.
 pub fn shore_of(call: Call, points: &[i64], winds: &[i64], rows: &[i64], n: usize) -> i64
     requires { (MarchIn (traverse call.head points.now) (storm call.closing winds.now) rows.now n) × (n ≡ segments (traverse call.head points.now)) }
-    ensures { result ≡ shoreOf (traverse call.head points.now) (storm call.closing winds.now) }
+    ensures { result ≡ shore_of (traverse call.head points.now) (storm call.closing winds.now) }
 {
     let shore = point_at(winds, n);
     let head = call.head;
@@ -58,7 +58,7 @@ pub fn shore_of(call: Call, points: &[i64], winds: &[i64], rows: &[i64], n: usiz
 // An accepted record of n segments: the elapsed time and the shore height.
 pub fn accepted(seconds: i64, base: i64, st: State, work: &[i64], n: usize) -> Taken
     requires { AcceptIn seconds base st work.now n }
-    ensures { result ≡ acceptedBy seconds base st work.now n }
+    ensures { result ≡ accepted_by seconds base st work.now n }
 {
     let elapsed = st.elapsed + seconds;
     let last = leg_at(work, n - 1);
@@ -86,8 +86,8 @@ pub fn take_in(
     setup: &mut [i64],
     work: &mut [i64],
 ) -> Taken
-    requires { 5 * mostSegments most rows.old ≤ length work.old }
-    ensures { left result rows.new setup.new ≡ takeOf (given most call points.now winds.now rows.old setup.old) }
+    requires { 5 * most_segments most rows.old ≤ length work.old }
+    ensures { left result rows.new setup.new ≡ take_of (given most call points.now winds.now rows.old setup.old) }
 {
     let state = call.state;
     let closing = call.closing;
@@ -125,7 +125,7 @@ pub fn take_record(
     rows: &mut [i64],
     setup: &mut [i64],
 ) -> Taken
-    ensures { left result rows.new setup.new ≡ takeOf (given mostPoints call points.now winds.now rows.old setup.old) }
+    ensures { left result rows.new setup.new ≡ take_of (given most_points call points.now winds.now rows.old setup.old) }
 {
     if rows.len() <= FEW_ROWS {
         let mut little = [0; 40];

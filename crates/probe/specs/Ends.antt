@@ -3,11 +3,11 @@ use Rattle.std.specs.Prelude.{List, [], ◌∷◌, ℤ}
 use Rattle.ranges.specs.declared.Range.{Range}
 use Rattle.forcing.specs.declared.coefficients.StressCoefficient.{StressCoefficient}
 
-abbrev pub endsOf : Range → List ℤ
-endsOf r = r.low ∷ r.high ∷ []
+abbrev pub ends_of : Range → List ℤ
+ends_of r = r.low ∷ r.high ∷ []
 
 abbrev pub range : ℤ → ℤ → Range
 range low high = record { low = low; high = high }
 
-abbrev pub partsOf : StressCoefficient → List ℤ
-partsOf k = k.numerator ∷ k.square ∷ []
+abbrev pub parts_of : StressCoefficient → List ℤ
+parts_of k = k.numerator ∷ k.square ∷ []

@@ -3,22 +3,22 @@
 #![tactic(auto)]
 
 ghost use Rattle.std.specs.Prelude.{◌≡◌, false, pos, length, ◌<ℤ◌};
-ghost use Rattle.forcing.specs.Quadrant.{Angle, sineOf, cosineOf};
-ghost use Rattle.forcing.specs.Coefficient.{coefficientOf};
-ghost use Rattle.forcing.specs.Stress.{Wind, stressOf};
-ghost use Rattle.forcing.specs.Force.{ForceBounds, forceOf};
+ghost use Rattle.forcing.specs.Quadrant.{Angle, sine_of, cosine_of};
+ghost use Rattle.forcing.specs.Coefficient.{coefficient_of};
+ghost use Rattle.forcing.specs.Stress.{Wind, stress_of};
+ghost use Rattle.forcing.specs.Force.{ForceBounds, force_of};
 ghost use Rattle.ranges.specs.Bounds.{DampedIn};
 ghost use Rattle.ranges.specs.Range.{Positive};
-ghost use Rattle.ranges.specs.Damped.{dampedOf};
-ghost use Rattle.ranges.specs.Quotient.{quotientOf};
-ghost use Rattle.probe.specs.Ends.{endsOf, range, partsOf};
+ghost use Rattle.ranges.specs.Damped.{damped_of};
+ghost use Rattle.ranges.specs.Quotient.{quotient_of};
+ghost use Rattle.probe.specs.Ends.{ends_of, range, parts_of};
 
 use ranges::Range;
 
 #[unsafe(no_mangle)]
 pub extern "C" fn probe_sine(angle: i64) -> i64
     requires { Angle angle }
-    ensures { result ≡ sineOf angle }
+    ensures { result ≡ sine_of angle }
 {
     let table = forcing::sine_table();
     forcing::sine(&table, angle)
@@ -27,7 +27,7 @@ pub extern "C" fn probe_sine(angle: i64) -> i64
 #[unsafe(no_mangle)]
 pub extern "C" fn probe_cosine(angle: i64) -> i64
     requires { Angle angle }
-    ensures { result ≡ cosineOf angle }
+    ensures { result ≡ cosine_of angle }
 {
     let table = forcing::sine_table();
     forcing::cosine(&table, angle)
@@ -37,7 +37,7 @@ pub extern "C" fn probe_cosine(angle: i64) -> i64
 #[unsafe(no_mangle)]
 pub extern "C" fn probe_coefficient(w: i64, out: &mut [i64])
     requires { (Wind w × (pos 0 <ℤ w)) × (length out.old ≡ 2) }
-    ensures { out.new ≡ partsOf (coefficientOf w) }
+    ensures { out.new ≡ parts_of (coefficient_of w) }
 {
     let k = forcing::coefficient(w);
     let numerator = k.numerator;
@@ -49,7 +49,7 @@ pub extern "C" fn probe_coefficient(w: i64, out: &mut [i64])
 #[unsafe(no_mangle)]
 pub extern "C" fn probe_stress(w: i64) -> i64
     requires { Wind w }
-    ensures { result ≡ stressOf w }
+    ensures { result ≡ stress_of w }
 {
     forcing::stress(w)
 }
@@ -57,7 +57,7 @@ pub extern "C" fn probe_stress(w: i64) -> i64
 // Low and high of a range into two places.
 pub fn put(r: Range, out: &mut [i64])
     requires { length out.old ≡ 2 }
-    ensures { out.new ≡ endsOf r }
+    ensures { out.new ≡ ends_of r }
 {
     let low = r.low;
     let high = r.high;
@@ -69,7 +69,7 @@ pub fn put(r: Range, out: &mut [i64])
 #[unsafe(no_mangle)]
 pub extern "C" fn probe_force(seconds: i64, old: i64, new: i64, out: &mut [i64])
     requires { (ForceBounds seconds old new) × (length out.old ≡ 2) }
-    ensures { out.new ≡ endsOf (forceOf false seconds old new) }
+    ensures { out.new ≡ ends_of (force_of false seconds old new) }
 {
     let r = forcing::force(false, seconds, old, new);
     put(r, out);
@@ -87,7 +87,7 @@ pub extern "C" fn probe_damped(
     out: &mut [i64],
 )
     requires { (DampedIn c (range vlow vhigh) (range flow fhigh) (range dlow dhigh)) × (length out.old ≡ 2) }
-    ensures { out.new ≡ endsOf (dampedOf c (range vlow vhigh) (range flow fhigh) (range dlow dhigh)) }
+    ensures { out.new ≡ ends_of (damped_of c (range vlow vhigh) (range flow fhigh) (range dlow dhigh)) }
 {
     let v = Range {
         low: vlow,
@@ -108,7 +108,7 @@ pub extern "C" fn probe_damped(
 #[unsafe(no_mangle)]
 pub extern "C" fn probe_quotient(nlow: i64, nhigh: i64, dlow: i64, dhigh: i64, out: &mut [i64])
     requires { (Positive (range dlow dhigh)) × (length out.old ≡ 2) }
-    ensures { out.new ≡ endsOf (quotientOf (range nlow nhigh) (range dlow dhigh)) }
+    ensures { out.new ≡ ends_of (quotient_of (range nlow nhigh) (range dlow dhigh)) }
 {
     let n = Range {
         low: nlow,

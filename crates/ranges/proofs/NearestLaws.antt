@@ -11,7 +11,7 @@ use lib.Signed.{le_z, lt_z, ◌≤ℤ◌, ◌<ℤ◌, le_z_yes, lt_z_yes}
 use mir.Syntax.{w64}
 use mir.Val.{SFits}
 use Rattle.ranges.specs.Fraction.{Frac, ◌≈F◌, pos-mul}
-use Rattle.ranges.specs.Nearest.{withinHalf, nearestWhole, NearestRule, TableHolds}
+use Rattle.ranges.specs.Nearest.{within_half, nearest_whole, NearestRule, TableHolds}
 use Rattle.ranges.proofs.ComputedTests.{both, and, below, below_at}
 use Rattle.ranges.proofs.DivisionLaws.{floor-is}
 use Rattle.ranges.proofs.FractionLaws.{≈F-sym}
@@ -36,11 +36,11 @@ rounded-low N D q h = zomega (N ∷ D ∷ q ∷ []) h (search says depth 20) (om
 rounded-high : (N D q : ℤ) → (q *ℤ (pos 2 *ℤ D)) ≤ℤ (pos 2 *ℤ N +ℤ D) → (pos 2 *ℤ q *ℤ D) ≤ℤ (pos 2 *ℤ N +ℤ D)
 rounded-high N D q h = zomega (N ∷ D ∷ q ∷ []) h (search says depth 20) (omega arith)
 
-pub nearest-near : (y : Frac) → T (withinHalf y (nearestWhole y))
+pub nearest-near : (y : Frac) → T (within_half y (nearest_whole y))
 nearest-near y =
     let two : pos 0 <ℤ pos 2 = lt_z_yes tt in
     let twice : pos 0 <ℤ (pos 2 *ℤ y.den) = pos-mul {a = pos 2} {b = y.den} two y.den_pos in
-    let q = nearestWhole y in
+    let q = nearest_whole y in
     let f = floor-is (pos 2 *ℤ y.num +ℤ y.den) (pos 2 *ℤ y.den) twice in
     and (le_z (pos 2 *ℤ y.num -ℤ y.den) (pos 2 *ℤ q *ℤ y.den)) (le_z (pos 2 *ℤ q *ℤ y.den) (pos 2 *ℤ y.num +ℤ y.den))
     (rounded-low y.num y.den q f.high).le (rounded-high y.num y.den q f.low).le
@@ -55,8 +55,8 @@ nearer y x = lt_z (pos 2 *ℤ y.num -ℤ y.den) (pos 2 *ℤ x *ℤ y.den) && lt_
 abbrev pub ruled : Frac → ℤ → Bool
 ruled y x = nearer y x && (le_z (pos 0) x && le_z x (pos 10000))
 
-lt-leZ : (a b : ℤ) → T (lt_z a b) → T (le_z a b)
-lt-leZ a b t = let k : a ≤ℤ b = lt-le (lt_z_yes t) in k.le
+lt-le_z : (a b : ℤ) → T (lt_z a b) → T (le_z a b)
+lt-le_z a b t = let k : a ≤ℤ b = lt-le (lt_z_yes t) in k.le
 
 pub rule : (y : Frac) (x : ℤ) → T (ruled y x) → NearestRule y x
 rule y x t =
@@ -67,7 +67,7 @@ rule y x t =
     let near = both (lt_z a b) (lt_z b c) parts.0 in
     let size = both (le_z (pos 0) x) (le_z x (pos 10000)) parts.1 in
     record {
-      near = and (le_z a b) (le_z b c) (lt-leZ a b near.0) (lt-leZ b c near.1);
+      near = and (le_z a b) (le_z b c) (lt-le_z a b near.0) (lt-le_z b c near.1);
       only = λ z s. let other = both (le_z a (pos 2 *ℤ z *ℤ y.den)) (le_z (pos 2 *ℤ z *ℤ y.den) c) s in
           only_one y.num y.den x z y.den_pos (lt_z_yes near.0) (lt_z_yes near.1) (le_z_yes other.0) (le_z_yes other.1);
       low = le_z_yes size.0;
@@ -93,7 +93,7 @@ within-high N D N' D' z p p' e h =
     cancel-le (pos 2 *ℤ z *ℤ D') (pos 2 *ℤ N' +ℤ D') D p (zomega (N ∷ D ∷ N' ∷ D' ∷ z ∷ []) (e & k) (search says depth 20) (omega arith))
 
 -- what is within half a unit of one is so of the other
-pub within_same : {y y' : Frac} (z : ℤ) → y ≈F y' → T (withinHalf y z) → T (withinHalf y' z)
+pub within_same : {y y' : Frac} (z : ℤ) → y ≈F y' → T (within_half y z) → T (within_half y' z)
 within_same {y} {y'} z e t =
     let parts = both (le_z (pos 2 *ℤ y.num -ℤ y.den) (pos 2 *ℤ z *ℤ y.den)) (le_z (pos 2 *ℤ z *ℤ y.den) (pos 2 *ℤ y.num +ℤ y.den)) t in
     and (le_z (pos 2 *ℤ y'.num -ℤ y'.den) (pos 2 *ℤ z *ℤ y'.den)) (le_z (pos 2 *ℤ z *ℤ y'.den) (pos 2 *ℤ y'.num +ℤ y'.den))
@@ -120,9 +120,9 @@ pub passed-rule : (value : ℕ → Frac) (count : ℕ) (table : ℕ → ℤ) →
 passed-rule value count table t n h = rule (value n) (table n) (below_at (λ (n : ℕ). ruled (value n) (table n)) count t n h)
 
 -- and is the nearest whole number, since there is no other
-pub rule-nearest : {y : Frac} {x : ℤ} → NearestRule y x → x ≡ nearestWhole y
-rule-nearest {y} r = sym (r.only (nearestWhole y) (nearest-near y))
+pub rule-nearest : {y : Frac} {x : ℤ} → NearestRule y x → x ≡ nearest_whole y
+rule-nearest {y} r = sym (r.only (nearest_whole y) (nearest-near y))
 
 pub table-holds : {value : ℕ → Frac} {count : ℕ} {table : ℕ → ℤ} → ((n : ℕ) → n < count → NearestRule (value n) (table n)) →
-    TableHolds count (λ (n : ℕ). nearestWhole (value n)) table
+    TableHolds count (λ (n : ℕ). nearest_whole (value n)) table
 table-holds rules = record { entry = λ n h. rule-nearest (rules n h) }

@@ -5,10 +5,10 @@ use lib.IntN.{ℤ}
 use Rattle.ranges.specs.declared.Range.{Range}
 use Rattle.ranges.specs.Fraction.{Frac, ◌≈F◌, whole, ◌/F◌}
 use Rattle.ranges.specs.Range.{Within, Ordered, Positive}
-use Rattle.ranges.specs.Quotient.{QuotientChoice, quotientAt, quotientOf}
+use Rattle.ranges.specs.Quotient.{QuotientChoice, quotient_at, quotient_of}
 use Rattle.ranges.specs.Outward.{Outward}
 use Rattle.ranges.proofs.FractionLaws.{≤<F-trans, <≤F-trans, ≈F-below, ≈F-above, at_low, at_high, within-pos, div-cong}
-use Rattle.ranges.proofs.QuotientLaws.{leastDivisor, mostDivisor, least-near, most-near, least-in, most-in, quotient-above, quotient-below}
+use Rattle.ranges.proofs.QuotientLaws.{least_divisor, most_divisor, least-near, most-near, least-in, most-in, quotient-above, quotient-below}
 
 -- a choice whose numerator is n and whose divisor is d
 pub record Corner {C : Type 0} (top bottom : C → Frac) (n d : ℤ) : Type 0 where
@@ -21,7 +21,7 @@ module _ {C : Type 0} (top bottom : C → Frac) (n d : Range) (p : Positive d) (
   corner-is k = div-cong _ _ _ _ (within-pos p.low (bottom-in k.choice)) k.top-is k.bottom-is
 
   -- the corners: the least numerator over the divisor that leaves it least, and the greatest over the divisor that leaves it greatest
-  pub quotients-outward : Corner top bottom n.low (leastDivisor n.low d) → Corner top bottom n.high (mostDivisor n.high d) → Outward (λ (c : C). top c /F bottom c) (quotientOf n d)
+  pub quotients-outward : Corner top bottom n.low (least_divisor n.low d) → Corner top bottom n.high (most_divisor n.high d) → Outward (λ (c : C). top c /F bottom c) (quotient_of n d)
   quotients-outward l h = record {
     within = λ c. record { above = quotient-above n.low d p (bottom c) (bottom-in c) (top c) (top_in c).above; below = quotient-below n.high d p (bottom c) (bottom-in c) (top c) (top_in c).below };
     least = l.choice;
@@ -31,11 +31,11 @@ module _ {C : Type 0} (top bottom : C → Frac) (n d : Range) (p : Positive d) (
   }
 
 -- every fraction in n over every fraction in d
-pub quotient-outward : (n d : Range) → Positive d → Ordered n → Ordered d → Outward (λ (x : QuotientChoice n d). quotientAt x) (quotientOf n d)
+pub quotient-outward : (n d : Range) → Positive d → Ordered n → Ordered d → Outward (λ (x : QuotientChoice n d). quotient_at x) (quotient_of n d)
 quotient-outward n d p n-ordered d-ordered =
     quotients-outward {C = QuotientChoice n d} (λ x. x.top) (λ x. x.bottom) n d p (λ x. x.top_in) (λ x. x.bottom-in)
-    (corner n.low (leastDivisor n.low d) (at_low n n-ordered) (least-in n.low d p d-ordered))
-    (corner n.high (mostDivisor n.high d) (at_high n n-ordered) (most-in n.high d p d-ordered))
+    (corner n.low (least_divisor n.low d) (at_low n n-ordered) (least-in n.low d p d-ordered))
+    (corner n.high (most_divisor n.high d) (at_high n n-ordered) (most-in n.high d p d-ordered))
   where
     corner : (m e : ℤ) → Within n (whole m) → Within d (whole e) → Corner {C = QuotientChoice n d} (λ x. x.top) (λ x. x.bottom) m e
     corner m e i j = record {

@@ -1,4 +1,4 @@
--- What `squareRoot` and `wholeRoot` are: the one number whose square is not above the operand while the next one's is. Assumes nothing.
+-- What `square_root` and `whole_root` are: the one number whose square is not above the operand while the next one's is. Assumes nothing.
 use mathlib.Core.Path.{◌≡◌, refl}
 use mathlib.Core.Bool.{Bool, true, false, cond}
 use Prim.Native.Nat.{ℕ, zero, suc, ◌+◌, ◌*◌, ◌/◌, ◌<◌, ◌≤◌, zero-le}
@@ -6,7 +6,7 @@ use native.Mathlib.Nat.{mul-le-mul, le-div_iff_mul-le}
 use native.Mathlib.Omega.{arith}
 use lib.Dec.{leb}
 use borrow.Author.Tests.{leb-true, leb-false}
-use Rattle.ranges.specs.Root.{IsRoot, orMore, rootIn, squareRoot, wholeRoot, RootRight}
+use Rattle.ranges.specs.Root.{IsRoot, or_more, root_in, square_root, whole_root, RootRight}
 
 -- b² is not above q, and the next square is
 pub record Square (q b : ℕ) : Type 0 where
@@ -37,30 +37,30 @@ module _ (q b : ℕ) (quarter : Square (q / 4) b) where
   pub twice-more : (2 * b + 1) * (2 * b + 1) ≤ q → Square q (2 * b + 1)
   twice-more h = record { within = h; next = omega arith }
 
-  or-more : Square q (orMore q (2 * b))
+  or-more : Square q (or_more q (2 * b))
   or-more = by (leb ((2 * b + 1) * (2 * b + 1)) q) refl
     where
       by : (t : Bool) → leb ((2 * b + 1) * (2 * b + 1)) q ≡ t → Square q (cond t (2 * b + 1) (2 * b))
       by true e = twice-more (leb-true _ _ e)
       by false e = twice (leb-false _ _ e)
 
-root_in : (fuel q : ℕ) → q ≤ fuel → Square q (rootIn fuel q)
-unfolding rootIn
-root_in zero q h = record { within = zero-le; next = omega arith }
-root_in (suc fuel) zero h = record { within = zero-le; next = omega arith }
-root_in (suc fuel) (suc q) h = or-more (suc q) (rootIn fuel (suc q / 4)) (root_in fuel (suc q / 4) (omega arith))
+root_in-square : (fuel q : ℕ) → q ≤ fuel → Square q (root_in fuel q)
+unfolding root_in
+root_in-square zero q h = record { within = zero-le; next = omega arith }
+root_in-square (suc fuel) zero h = record { within = zero-le; next = omega arith }
+root_in-square (suc fuel) (suc q) h = or-more (suc q) (root_in fuel (suc q / 4)) (root_in-square fuel (suc q / 4) (omega arith))
 
-pub square-root-is : (q : ℕ) → Square q (squareRoot q)
-unfolding squareRoot
-square-root-is q = root_in q q (omega arith)
+pub square-root-is : (q : ℕ) → Square q (square_root q)
+unfolding square_root
+square-root-is q = root_in-square q q (omega arith)
 
-pub is-square-root : {q b : ℕ} → Square q b → b ≡ squareRoot q
+pub is-square-root : {q b : ℕ} → Square q b → b ≡ square_root q
 is-square-root {q} s = square-only s (square-root-is q)
 
 -- ---- of n with a factor
 
-whole_is : (k n : ℕ) → 0 < k → IsRoot k n (wholeRoot k n)
-unfolding wholeRoot
+whole_is : (k n : ℕ) → 0 < k → IsRoot k n (whole_root k n)
+unfolding whole_root
 whole_is k n p =
     let s = square-root-is (n / k) in
     record {
@@ -72,5 +72,5 @@ whole_is k n p =
 pub root-right : RootRight
 root-right = record {
   is = whole_is;
-  only = λ k n b p r. let s = whole_is k n p in omega (arith, s.greatest b r.within, r.greatest (wholeRoot k n) s.within);
+  only = λ k n b p r. let s = whole_is k n p in omega (arith, s.greatest b r.within, r.greatest (whole_root k n) s.within);
 }

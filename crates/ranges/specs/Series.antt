@@ -22,6 +22,6 @@ abbrev pub term : Frac → ℕ → Frac
 term a k = a ^F k /F whole (pos (factorial k))
 
 -- the sum of f k for k from 0 to n
-abbrev pub sumTo : (ℕ → Frac) → ℕ → Frac
-sumTo f zero = f 0
-sumTo f (suc n) = sumTo f n +F f (suc n)
+abbrev pub sum_to : (ℕ → Frac) → ℕ → Frac
+sum_to f zero = f 0
+sum_to f (suc n) = sum_to f n +F f (suc n)

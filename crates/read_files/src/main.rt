@@ -4,7 +4,7 @@
 #![tactic(auto)]
 
 ghost use Rattle.std.specs.Prelude.{◌≡◌, ◌-◌, ◌*◌, ◌<◌, ◌≤◌, length, nat_abs};
-ghost use Rattle.reader.specs.Storm.{recordSize, longestRecord};
+ghost use Rattle.reader.specs.Storm.{record_size, longest_record};
 ghost use Rattle.read_files.specs.Standing.{Stands, Lent};
 
 use files::{Filled, Loaded};
@@ -177,7 +177,7 @@ fn put_points(out: &mut [u8], used: usize, points: &[i64], n: usize) -> usize
 
 // The record of n points that was read into the lent numbers.
 fn put_record(out: &mut [u8], used: usize, numbers: &[i64], n: usize) -> usize
-    requires { (recordSize n ≤ length numbers.now) × ((used ≤ length out.old) × (0 < length out.old)) }
+    requires { (record_size n ≤ length numbers.now) × ((used ≤ length out.old) × (0 < length out.old)) }
     ensures { result ≤ length out.new }
 {
     let end = Closing::NUMBERS + Point::NUMBERS * n;
@@ -238,7 +238,7 @@ fn start_turn(
     x: Reading,
     out: &mut [u8],
 ) -> Reading
-    requires { Stands x (length buf.old) (length out.old) × ((0 < length out.old) × (longestRecord ≤ length buf.old)) }
+    requires { Stands x (length buf.old) (length out.old) × ((0 < length out.old) × (longest_record ≤ length buf.old)) }
     ensures { Stands result (length buf.new) (length out.new) }
 {
     let old = x.c;
@@ -274,7 +274,7 @@ fn record_turn(
     numbers: &mut [i64],
     out: &mut [u8],
 ) -> Reading
-    requires { (recordSize n ≤ length numbers.old) × (Stands x (length buf.old) (length out.old) × ((0 < length out.old) × (longestRecord ≤ length buf.old))) }
+    requires { (record_size n ≤ length numbers.old) × (Stands x (length buf.old) (length out.old) × ((0 < length out.old) × (longest_record ≤ length buf.old))) }
     ensures { Stands result (length buf.new) (length out.new) }
 {
     let c = x.c;
@@ -317,7 +317,7 @@ fn turn(
     numbers: &mut [i64],
     out: &mut [u8],
 ) -> Reading
-    requires { (recordSize n ≤ length numbers.old) × (Stands x (length buf.old) (length out.old) × ((0 < length out.old) × (longestRecord ≤ length buf.old))) }
+    requires { (record_size n ≤ length numbers.old) × (Stands x (length buf.old) (length out.old) × ((0 < length out.old) × (longest_record ≤ length buf.old))) }
     ensures { Stands result (length buf.new) (length out.new) }
 {
     let c = x.c;
@@ -338,7 +338,7 @@ fn print_storm(
     out: &mut [u8],
     used: usize,
 ) -> usize
-    requires { (recordSize n ≤ length numbers.old) × ((used ≤ length out.old) × ((0 < length out.old) × (longestRecord ≤ length buf.old))) }
+    requires { (record_size n ≤ length numbers.old) × ((used ≤ length out.old) × ((0 < length out.old) × (longest_record ≤ length buf.old))) }
     ensures { result ≤ length out.new }
 {
     let mut turns: u64 = 0x100_0000_0000_0000;
@@ -371,7 +371,7 @@ fn print_run(
     numbers: &mut [i64],
     out: &mut [u8],
 ) -> usize
-    requires { (2 * n ≤ length points.now) × ((recordSize n ≤ length numbers.old) × ((0 < length out.old) × (longestRecord ≤ length buf.old))) }
+    requires { (2 * n ≤ length points.now) × ((record_size n ≤ length numbers.old) × ((0 < length out.old) × (longest_record ≤ length buf.old))) }
     ensures { result ≤ length out.new }
 {
     let a = put_traverse(out, 0, head, n);

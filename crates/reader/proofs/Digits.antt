@@ -9,16 +9,16 @@ use native.Mathlib.Nat.{pow-suc, pow-le-pow_right, mul-le-mul_right, sub-zero}
 use lib.ListN.{length}
 use lib.Dec.{ltb}
 use borrow.Author.Tests.{lt-ltb, le-ltb, ltb-true}
-use Rattle.reader.specs.Text.{digitAt, digits, worth}
+use Rattle.reader.specs.Text.{digit_at, digits, worth}
 
 -- a digit stands within the text
-pub within : (s : List ℕ) (i : ℕ) → digitAt s i < 10 → i < length s
-unfolding digitAt
+pub within : (s : List ℕ) (i : ℕ) → digit_at s i < 10 → i < length s
+unfolding digit_at
 within [] i h = omega arith
 within (x ∷ s) zero h = omega arith
 within (x ∷ s) (suc i) h = let r = within s i h in omega arith
 
-pub digits-none : (s : List ℕ) (n at : ℕ) → 10 ≤ digitAt s at → digits s n at ≡ 0
+pub digits-none : (s : List ℕ) (n at : ℕ) → 10 ≤ digit_at s at → digits s n at ≡ 0
 unfolding digits
 digits-none s zero at h = refl
 digits-none s (suc n) at h = simp (le-ltb _ _ h)
@@ -26,11 +26,11 @@ digits-none s (suc n) at h = simp (le-ltb _ _ h)
 -- ---- how many, and what they are worth
 
 -- what is known of them by whether a digit stands first
-by_digit : {P : Type 0} (s : List ℕ) (n at : ℕ) → (digitAt s at < 10 → digits s (suc n) at ≡ suc (digits s n (at + 1)) → P) → (digits s (suc n) at ≡ 0 → P) → P
+by_digit : {P : Type 0} (s : List ℕ) (n at : ℕ) → (digit_at s at < 10 → digits s (suc n) at ≡ suc (digits s n (at + 1)) → P) → (digits s (suc n) at ≡ 0 → P) → P
 unfolding digits
-by_digit {P} s n at f g = by (ltb (digitAt s at) 10) refl
+by_digit {P} s n at f g = by (ltb (digit_at s at) 10) refl
   where
-    by : (t : Bool) → ltb (digitAt s at) 10 ≡ t → P
+    by : (t : Bool) → ltb (digit_at s at) 10 ≡ t → P
     by true e = f (ltb-true _ _ e) (rw e)
     by false e = g (rw e)
 
@@ -53,7 +53,7 @@ digits-worth s zero v at = omega arith
 digits-worth s (suc n) v at =
     by_digit s n at
     (λ d e.
-    let w : ℕ = v * 10 + digitAt s at in
+    let w : ℕ = v * 10 + digit_at s at in
     let r = digits-worth s n w (at + 1) in
     let m : suc w * 10 ^ digits s n (at + 1) ≤ suc v * 10 * 10 ^ digits s n (at + 1) = mul-le-mul_right (10 ^ digits s n (at + 1)) (omega arith) in
     rw (e, pow-suc) (omega arith))
@@ -66,11 +66,11 @@ pub record Scan (most : ℕ) (s : List ℕ) (start at count value d : ℕ) : Typ
   pub place : at ≡ start + count
   pub few : count ≤ most
   pub small : value < 10 ^ count
-  pub here : d ≡ digitAt s at
+  pub here : d ≡ digit_at s at
   pub many : digits s most start ≡ count + digits s (most - count) at
   pub same : worth s 0 (digits s most start) start ≡ worth s value (digits s (most - count) at) at
 
-pub scan-none : (most : ℕ) (s : List ℕ) (start d : ℕ) → d ≡ digitAt s start → Scan most s start start 0 0 d
+pub scan-none : (most : ℕ) (s : List ℕ) (start d : ℕ) → d ≡ digit_at s start → Scan most s start start 0 0 d
 scan-none most s start d e = record { place = omega arith; few = omega arith; small = omega arith; here = e; many = rw sub-zero (omega arith); same = rw sub-zero }
 
 module _ {most : ℕ} {s : List ℕ} {start at count value d : ℕ} (h : Scan most s start at count value d) where
@@ -84,11 +84,11 @@ module _ {most : ℕ} {s : List ℕ} {start at count value d : ℕ} (h : Scan mo
   scan-next : d < 10 → count < most → digits s (most - count) at ≡ suc (digits s (most - (count + 1)) (at + 1))
   unfolding digits
   scan-next p q =
-      let b : digitAt s at < 10 = omega (arith, h.here) in
+      let b : digit_at s at < 10 = omega (arith, h.here) in
       let e : most - count ≡ suc (most - (count + 1)) = omega arith in
       rw (e, lt-ltb _ _ b)
 
-  pub scan-more : (to e : ℕ) → d < 10 → count < most → to ≡ at + 1 → e ≡ digitAt s to → Scan most s start to (count + 1) (value * 10 + d) e
+  pub scan-more : (to e : ℕ) → d < 10 → count < most → to ≡ at + 1 → e ≡ digit_at s to → Scan most s start to (count + 1) (value * 10 + d) e
   unfolding worth
   scan-more to e p q t r =
       let g = h.small in

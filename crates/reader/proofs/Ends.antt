@@ -10,11 +10,11 @@ use lib.IntN.{ℤ}
 use borrow.Author.Tests.{ltb-true}
 use Rattle.records.specs.declared.Kind.TheVariants as kind
 use Rattle.records.specs.Refusals.{refusal}
-use Rattle.records.specs.Limits.{countOk, mostPoints}
-use Rattle.reader.specs.Text.{more, byte, valueAt, pastAt}
-use Rattle.reader.specs.Lines.{Outcome, read, refused, found, Leaves, leaves, laid, repeated, keptWith, sameWith, Line, full, bad, closedAt, valuesAt, linesRead, after, linesAt, spells, namesAt, holds}
-use Rattle.reader.specs.Storm.{stormNames, stormStart, recordOf, recordLines, Further, one, none, nextAt, keptAt, nextOf, tooFew, nextLeft, startStep, holdsRecord, Seen, needs-more, seen, recordStep, recordStepLeft}
-use Rattle.reader.specs.Traverse.{headNames, pointNames, Held, valueLine, lineBy, lineAt, endOf, endStep, endLeft, onStep, moreStep, stepAt, traverseStep}
+use Rattle.records.specs.Limits.{count_ok, most_points}
+use Rattle.reader.specs.Text.{more, byte, value_at, past_at}
+use Rattle.reader.specs.Lines.{Outcome, read, refused, found, Leaves, leaves, laid, repeated, kept_with, same_with, Line, full, bad, closed_at, values_at, lines_read, after, lines_at, spells, names_at, holds}
+use Rattle.reader.specs.Storm.{storm_names, storm_start, record_of, record_lines, Further, one, none, next_at, kept_at, next_of, too_few, next_left, start_step, holds_record, Seen, needs-more, seen, record_step, record_step_left}
+use Rattle.reader.specs.Traverse.{head_names, point_names, Held, value_line, line_by, line_at, end_of, end_step, end_left, on_step, more_step, step_at, traverse_step}
 use Rattle.reader.specs.declared.Lines.{Lines}
 use Rattle.reader.specs.declared.Lines.TheVariants.{Read, Refused}
 use Rattle.reader.specs.declared.traverse.Part.{Part}
@@ -37,13 +37,13 @@ Ended b (full a kept same) = a ≤ b
 Ended b (bad kept) = Unit {0}
 
 module _ (s : List ℕ) (shared i : ℕ) where
-  values-end : (n k at : ℕ) (kept : List ℤ) (same : Bool) → at ≤ length s → Ended (length s) (valuesAt s shared i n k at kept same)
-  unfolding valuesAt
+  values-end : (n k at : ℕ) (kept : List ℤ) (same : Bool) → at ≤ length s → Ended (length s) (values_at s shared i n k at kept same)
+  unfolding values_at
   values-end zero k at kept same h = h
-  values-end (suc n) k at kept same h = go (closedAt s n at) refl _ (values-end n (k + 1) (pastAt s at + 1) (keptWith (repeated shared i k) (valueAt s at) kept) (sameWith (repeated shared i k) k (valueAt s at) kept same))
+  values-end (suc n) k at kept same h = go (closed_at s n at) refl _ (values-end n (k + 1) (past_at s at + 1) (kept_with (repeated shared i k) (value_at s at) kept) (same_with (repeated shared i k) k (value_at s at) kept same))
     where
-      go : (b : Bool) → closedAt s n at ≡ b → (l : Line) → (pastAt s at + 1 ≤ length s → Ended (length s) l) → Ended (length s) (cond b l (bad kept))
-      go true e l r = r (omega (arith, closed-present s n at (pastAt s at) refl e))
+      go : (b : Bool) → closed_at s n at ≡ b → (l : Line) → (past_at s at + 1 ≤ length s → Ended (length s) l) → Ended (length s) (cond b l (bad kept))
+      go true e l r = r (omega (arith, closed-present s n at (past_at s at) refl e))
       go false e l r = tt
 
 -- what was read ends by b
@@ -59,14 +59,14 @@ found_inside : {A : Type 0} (b : ℕ) (r : Lines) (x : A) → Stays b r → Insi
 found_inside b (Read c) x h = h
 found_inside b (Refused q) x h = tt
 
-lines_end : (s : List ℕ) (width shared n i at line : ℕ) (kept : List ℤ) → at ≤ length s → Stays (length s) (linesAt s width shared n i at line kept).answer
-unfolding linesAt
+lines_end : (s : List ℕ) (width shared n i at line : ℕ) (kept : List ℤ) → at ≤ length s → Stays (length s) (lines_at s width shared n i at line kept).answer
+unfolding lines_at
 lines_end s width shared zero i at line kept h = h
 lines_end s width shared (suc n) i at line kept h =
-    go (ltb at (length s)) (valuesAt s shared i width 0 at kept true) (values-end s shared i width 0 at kept true h) (λ a o p. lines_end s width shared n (i + 1) a (more line) o p)
+    go (ltb at (length s)) (values_at s shared i width 0 at kept true) (values-end s shared i width 0 at kept true h) (λ a o p. lines_end s width shared n (i + 1) a (more line) o p)
   where
-    go : (b : Bool) (l : Line) → Ended (length s) l → ((a : ℕ) (o : List ℤ) → a ≤ length s → Stays (length s) (linesAt s width shared n (i + 1) a (more line) o).answer)
-        → Stays (length s) (cond b (after l (more line) (λ a o. linesAt s width shared n (i + 1) a (more line) o)) (linesRead (Refused (refusal kind.Ended line)) kept)).answer
+    go : (b : Bool) (l : Line) → Ended (length s) l → ((a : ℕ) (o : List ℤ) → a ≤ length s → Stays (length s) (lines_at s width shared n (i + 1) a (more line) o).answer)
+        → Stays (length s) (cond b (after l (more line) (λ a o. lines_at s width shared n (i + 1) a (more line) o)) (lines_read (Refused (refusal kind.Ended line)) kept)).answer
     go true (full a o true) e r = r a o e
     go true (full a o false) e r = tt
     go true (bad o) e r = tt
@@ -83,8 +83,8 @@ spells-end s (b ∷ want) at h e = go (ltb at (length s)) refl (eqb (byte s at) 
     go true f false r e = let z : ◌≡◌ {A = ℕ} 0 1 = cc in absurd (omega arith)
     go false f q r e = let z : ◌≡◌ {A = ℕ} 0 1 = cc in absurd (omega arith)
 
-names-end : (s want : List ℕ) (at line : ℕ) → at ≤ length s → Stays (length s) (namesAt s want at line)
-unfolding namesAt
+names-end : (s want : List ℕ) (at line : ℕ) → at ≤ length s → Stays (length s) (names_at s want at line)
+unfolding names_at
 names-end s want at line h = go (spells s at want) refl
   where
     go : (b : Bool) → spells s at want ≡ b → Stays (length s) (cond b (Read (record { at = at + length want; line = more line })) (Refused (refusal kind.Names (more line))))
@@ -93,15 +93,15 @@ names-end s want at line h = go (spells s at want) refl
 
 -- ---- a traverse text
 
-line-end : (s : List ℕ) (h : Held) (at line : ℕ) → at ≤ length s → Inside (length s) (lineAt s h at line)
-unfolding lineAt
+line-end : (s : List ℕ) (h : Held) (at line : ℕ) → at ≤ length s → Inside (length s) (line_at s h at line)
+unfolding line_at
 line-end s h at line e = go h.known.part
   where
-    go : (p : Part) → Inside (length s) (lineBy s p h at line)
-    go Names = found_inside _ (namesAt s headNames at line) _ (names-end s headNames at line e)
-    go Values = found_inside _ (valueLine s 3 at line).answer _ (lines_end s 3 0 1 0 at line [] e)
-    go Columns = found_inside _ (namesAt s pointNames at line) _ (names-end s pointNames at line e)
-    go Points = found_inside _ (valueLine s 2 at line).answer _ (lines_end s 2 0 1 0 at line [] e)
+    go : (p : Part) → Inside (length s) (line_by s p h at line)
+    go Names = found_inside _ (names_at s head_names at line) _ (names-end s head_names at line e)
+    go Values = found_inside _ (value_line s 3 at line).answer _ (lines_end s 3 0 1 0 at line [] e)
+    go Columns = found_inside _ (names_at s point_names at line) _ (names-end s point_names at line e)
+    go Points = found_inside _ (value_line s 2 at line).answer _ (lines_end s 2 0 1 0 at line [] e)
 
 -- where a step stops for more of the text
 abbrev pub Stands : ℕ → ℕ → Progress → Type 0
@@ -109,8 +109,8 @@ Stands from to progress.Read = Unit {0}
 Stands from to (progress.More c) = (from ≤ c.at) × (c.at ≤ to)
 Stands from to (progress.Refused q) = Unit {0}
 
-stands-end : (from to : ℕ) (o : Outcome Known) → Stands from to (endStep o).answer
-unfolding endStep
+stands-end : (from to : ℕ) (o : Outcome Known) → Stands from to (end_step o).answer
+unfolding end_step
 stands-end from to (read k a l) = tt
 stands-end from to (refused q) = tt
 
@@ -121,57 +121,57 @@ stands-wider from from' to (progress.Refused q) h s = tt
 
 module _ (w : List ℕ) (last : Bool) (to : ℕ) (n : length w ≤ to) where
   after_line : (f at : ℕ) (h : Held) (r : Outcome Held) → Past (at + 1) r → Inside (length w) r
-      → ((k : Held) (a l : ℕ) → a ≤ to → Stands a to (stepAt w last f k a l).answer.answer) → Stands (at + 1) to (onStep h r (stepAt w last f)).answer.answer
-  after_line f at h (read k a l) p q ih = stands-wider (at + 1) a to (stepAt w last f k a l).answer.answer p (ih k a l (omega arith))
+      → ((k : Held) (a l : ℕ) → a ≤ to → Stands a to (step_at w last f k a l).answer.answer) → Stands (at + 1) to (on_step h r (step_at w last f)).answer.answer
+  after_line f at h (read k a l) p q ih = stands-wider (at + 1) a to (step_at w last f k a l).answer.answer p (ih k a l (omega arith))
   after_line f at h (refused q) p r ih = stands-end (at + 1) to (refused q)
 
   -- at a line, or at the end of the text
-  at-line : (f : ℕ) (h : Held) (at line : ℕ) → ((k : Held) (a l : ℕ) → a ≤ to → Stands a to (stepAt w last f k a l).answer.answer)
-      → Stands (at + 1) to (cond (ltb at (length w)) (onStep h (lineAt w h at line) (stepAt w last f)) (endLeft (endOf h at line))).answer.answer
+  at-line : (f : ℕ) (h : Held) (at line : ℕ) → ((k : Held) (a l : ℕ) → a ≤ to → Stands a to (step_at w last f k a l).answer.answer)
+      → Stands (at + 1) to (cond (ltb at (length w)) (on_step h (line_at w h at line) (step_at w last f)) (end_left (end_of h at line))).answer.answer
   at-line f h at line ih = go (ltb at (length w)) refl
     where
-      go : (c : Bool) → ltb at (length w) ≡ c → Stands (at + 1) to (cond c (onStep h (lineAt w h at line) (stepAt w last f)) (endLeft (endOf h at line))).answer.answer
-      go true e = let p : at < length w = ltb-true _ _ e in after_line f at h (lineAt w h at line) (line_on w h at line) (line-end w h at line (omega arith)) ih
-      go false e = stands-end (at + 1) to (endOf h at line).answer
+      go : (c : Bool) → ltb at (length w) ≡ c → Stands (at + 1) to (cond c (on_step h (line_at w h at line) (step_at w last f)) (end_left (end_of h at line))).answer.answer
+      go true e = let p : at < length w = ltb-true _ _ e in after_line f at h (line_at w h at line) (line_on w h at line) (line-end w h at line (omega arith)) ih
+      go false e = stands-end (at + 1) to (end_of h at line).answer
 
-  step-stands : (f : ℕ) (h : Held) (at line : ℕ) → at ≤ to → Stands at to (stepAt w last f h at line).answer.answer
-  unfolding stepAt
+  step-stands : (f : ℕ) (h : Held) (at line : ℕ) → at ≤ to → Stands at to (step_at w last f h at line).answer.answer
+  unfolding step_at
   step-stands zero h at line e = go last
     where
-      go : (b : Bool) → Stands at to (cond b (endLeft (endOf h at line)) (moreStep h at line)).answer.answer
-      go true = stands-end at to (endOf h at line).answer
+      go : (b : Bool) → Stands at to (cond b (end_left (end_of h at line)) (more_step h at line)).answer.answer
+      go true = stands-end at to (end_of h at line).answer
       go false = (omega arith, e)
-  step-stands (suc f) h at line e = go (holds (length w) last at 33) (cond (ltb at (length w)) (onStep h (lineAt w h at line) (stepAt w last f)) (endLeft (endOf h at line))) (at-line f h at line (λ k a l p. step-stands f k a l p))
+  step-stands (suc f) h at line e = go (holds (length w) last at 33) (cond (ltb at (length w)) (on_step h (line_at w h at line) (step_at w last f)) (end_left (end_of h at line))) (at-line f h at line (λ k a l p. step-stands f k a l p))
     where
-      go : (b : Bool) (r : Leaves TraverseStep) → Stands (at + 1) to r.answer.answer → Stands at to (cond b r (moreStep h at line)).answer.answer
+      go : (b : Bool) (r : Leaves TraverseStep) → Stands (at + 1) to r.answer.answer → Stands at to (cond b r (more_step h at line)).answer.answer
       go true r q = stands-wider at (at + 1) to r.answer.answer (omega arith) q
       go false r q = (omega arith, e)
 
   -- a step stays in its window
-  pub traverse-stands : (h : Held) (at line : ℕ) → at ≤ to → Stands at to (traverseStep w last h at line).answer.answer
-  unfolding traverseStep
+  pub traverse-stands : (h : Held) (at line : ℕ) → at ≤ to → Stands at to (traverse_step w last h at line).answer.answer
+  unfolding traverse_step
   traverse-stands h at line e = step-stands (length w) h at line e
 
   -- and moves on where the window holds a line
-  pub traverse-moves : (h : Held) (at line : ℕ) → holds (length w) last at 33 ≡ true → Stands (at + 1) to (traverseStep w last h at line).answer.answer
+  pub traverse-moves : (h : Held) (at line : ℕ) → holds (length w) last at 33 ≡ true → Stands (at + 1) to (traverse_step w last h at line).answer.answer
   traverse-moves h at line e =
-      let q : cond (ltb at (length w)) (onStep h (lineAt w h at line) (traverseStep w last)) (endLeft (endOf h at line)) ≡ traverseStep w last h at line = sym (step-once w last h at line ∙ rw e) in
+      let q : cond (ltb at (length w)) (on_step h (line_at w h at line) (traverse_step w last)) (end_left (end_of h at line)) ≡ traverse_step w last h at line = sym (step-once w last h at line ∙ rw e) in
       subst (λ (x : Leaves TraverseStep). Stands (at + 1) to x.answer.answer) q (go (ltb at (length w)) refl)
     where
-      onto : (r : Outcome Held) → Past (at + 1) r → Inside (length w) r → Stands (at + 1) to (onStep h r (traverseStep w last)).answer.answer
-      onto (read k a l) p q = stands-wider (at + 1) a to (traverseStep w last k a l).answer.answer p (traverse-stands k a l (omega arith))
+      onto : (r : Outcome Held) → Past (at + 1) r → Inside (length w) r → Stands (at + 1) to (on_step h r (traverse_step w last)).answer.answer
+      onto (read k a l) p q = stands-wider (at + 1) a to (traverse_step w last k a l).answer.answer p (traverse-stands k a l (omega arith))
       onto (refused q) p r = stands-end (at + 1) to (refused q)
 
-      go : (c : Bool) → ltb at (length w) ≡ c → Stands (at + 1) to (cond c (onStep h (lineAt w h at line) (traverseStep w last)) (endLeft (endOf h at line))).answer.answer
-      go true e = let p : at < length w = ltb-true _ _ e in onto (lineAt w h at line) (line_on w h at line) (line-end w h at line (omega arith))
-      go false e = stands-end (at + 1) to (endOf h at line).answer
+      go : (c : Bool) → ltb at (length w) ≡ c → Stands (at + 1) to (cond c (on_step h (line_at w h at line) (traverse_step w last)) (end_left (end_of h at line))).answer.answer
+      go true e = let p : at < length w = ltb-true _ _ e in onto (line_at w h at line) (line_on w h at line) (line-end w h at line (omega arith))
+      go false e = stands-end (at + 1) to (end_of h at line).answer
 
 -- ---- a storm text
 
 -- the names line ends within the text
-pub start-stays : (s : List ℕ) → Stays (length s) (stormStart s)
-unfolding stormStart
-start-stays s = names-end s stormNames 0 0 (omega arith)
+pub start-stays : (s : List ℕ) → Stays (length s) (storm_start s)
+unfolding storm_start
+start-stays s = names-end s storm_names 0 0 (omega arith)
 
 -- a record ends past where it begins, and within the text
 abbrev pub Read-on : ℕ → ℕ → Outcome Further → Type 0
@@ -179,17 +179,17 @@ Read-on from to (read (one r) a l) = (from ≤ a) × (a ≤ to)
 Read-on from to (read none a l) = Unit {0}
 Read-on from to (refused q) = Unit {0}
 
-pub next-on : (s : List ℕ) (n at line : ℕ) → at ≤ length s → Read-on (at + 1) (length s) (nextAt s n at line)
-unfolding nextAt
-next-on s n at line h = go (countOk mostPoints n) refl (ltb at (length s)) (recordLines s n at line).answer (lines-on s 5 2 n 0 at line [] (omega arith)) (lines_end s 5 2 n 0 at line [] h)
+pub next-on : (s : List ℕ) (n at line : ℕ) → at ≤ length s → Read-on (at + 1) (length s) (next_at s n at line)
+unfolding next_at
+next-on s n at line h = go (count_ok most_points n) refl (ltb at (length s)) (record_lines s n at line).answer (lines-on s 5 2 n 0 at line [] (omega arith)) (lines_end s 5 2 n 0 at line [] h)
   where
     rest : (b : Bool) → Read-on (at + 1) (length s) (cond b (read none at line) (refused (refusal kind.Ended line)))
     rest true = tt
     rest false = tt
 
-    go : (b : Bool) → countOk mostPoints n ≡ b → (c : Bool) (r : Lines) → PastLines (at + n) r → Stays (length s) r
-        → Read-on (at + 1) (length s) (cond b (cond c (found r (one (recordOf (recordLines s n at line).kept))) (cond (ltb 1 line) (read none at line) (refused (refusal kind.Ended line)))) (refused (refusal kind.Points n)))
-    go true e true (Read d) p q = let k = counts-in mostPoints n e in (omega arith, q)
+    go : (b : Bool) → count_ok most_points n ≡ b → (c : Bool) (r : Lines) → PastLines (at + n) r → Stays (length s) r
+        → Read-on (at + 1) (length s) (cond b (cond c (found r (one (record_of (record_lines s n at line).kept))) (cond (ltb 1 line) (read none at line) (refused (refusal kind.Ended line)))) (refused (refusal kind.Points n)))
+    go true e true (Read d) p q = let k = counts-in most_points n e in (omega arith, q)
     go true e true (Refused t) p q = tt
     go true e false r p q = rest (ltb 1 line)
     go false e c r p q = tt
@@ -199,11 +199,11 @@ abbrev pub SeenOn : ℕ → ℕ → Seen → Type 0
 SeenOn from to needs-more = Unit {0}
 SeenOn from to (seen r) = Read-on from to r
 
-pub seen-stands : (w : List ℕ) (last : Bool) (n at line : ℕ) → at ≤ length w → SeenOn (at + 1) (length w) (recordStep w last n at line)
-unfolding recordStep
-seen-stands w last n at line h = go (holdsRecord (length w) last n at)
+pub seen-stands : (w : List ℕ) (last : Bool) (n at line : ℕ) → at ≤ length w → SeenOn (at + 1) (length w) (record_step w last n at line)
+unfolding record_step
+seen-stands w last n at line h = go (holds_record (length w) last n at)
   where
-    go : (b : Bool) → SeenOn (at + 1) (length w) (cond b (seen (nextAt w n at line)) needs-more)
+    go : (b : Bool) → SeenOn (at + 1) (length w) (cond b (seen (next_at w n at line)) needs-more)
     go true = next-on w n at line h
     go false = tt
 
@@ -213,12 +213,12 @@ Answered from to (step.Answer (next.Read c)) = (from ≤ c.at) × (c.at ≤ to)
 Answered from to (step.Answer next.End) = Unit {0}
 Answered from to (step.Answer (next.Refused q)) = Unit {0}
 
-pub record-stands : (w : List ℕ) (last : Bool) (n at line : ℕ) (lent : List ℤ) → at ≤ length w → Answered (at + 1) (length w) (recordStepLeft w last n at line lent).answer
-unfolding recordStepLeft nextLeft nextOf
-record-stands w last n at line lent h = go (holdsRecord (length w) last n at) (tooFew n (length lent)) (nextAt w n at line) (next-on w n at line h)
+pub record-stands : (w : List ℕ) (last : Bool) (n at line : ℕ) (lent : List ℤ) → at ≤ length w → Answered (at + 1) (length w) (record_step_left w last n at line lent).answer
+unfolding record_step_left next_left next_of
+record-stands w last n at line lent h = go (holds_record (length w) last n at) (too_few n (length lent)) (next_at w n at line) (next-on w n at line h)
   where
     by : (t : Bool) (r : Outcome Further) → Read-on (at + 1) (length w) r
-        → Answered (at + 1) (length w) (step.Answer (cond t (leaves (next.Refused (refusal kind.Lent 0)) lent) (leaves (nextOf r) (laid (keptAt w n at line) lent))).answer)
+        → Answered (at + 1) (length w) (step.Answer (cond t (leaves (next.Refused (refusal kind.Lent 0)) lent) (leaves (next_of r) (laid (kept_at w n at line) lent))).answer)
     by true r p = tt
     by false (read (one r) a l) p = p
     by false (read none a l) p = tt
@@ -227,7 +227,7 @@ record-stands w last n at line lent h = go (holdsRecord (length w) last n at) (t
     go : (b t : Bool) (r : Outcome Further) → Read-on (at + 1) (length w) r
         → Answered (at + 1) (length w)
         (cond {A = Leaves RecordStep} b
-        (leaves (step.Answer (cond t (leaves (next.Refused (refusal kind.Lent 0)) lent) (leaves (nextOf r) (laid (keptAt w n at line) lent))).answer) (cond t (leaves (next.Refused (refusal kind.Lent 0)) lent) (leaves (nextOf r) (laid (keptAt w n at line) lent))).numbers)
+        (leaves (step.Answer (cond t (leaves (next.Refused (refusal kind.Lent 0)) lent) (leaves (next_of r) (laid (kept_at w n at line) lent))).answer) (cond t (leaves (next.Refused (refusal kind.Lent 0)) lent) (leaves (next_of r) (laid (kept_at w n at line) lent))).numbers)
         (leaves step.More lent)).answer
     go true t r p = by t r p
     go false t r p = tt
@@ -237,10 +237,10 @@ abbrev pub Begun : ℕ → StartStep → Type 0
 Begun to start-step.More = Unit {0}
 Begun to (start-step.Answer r) = Stays to r
 
-pub start-begun : (w : List ℕ) (last : Bool) → Begun (length w) (startStep w last)
-unfolding startStep
+pub start-begun : (w : List ℕ) (last : Bool) → Begun (length w) (start_step w last)
+unfolding start_step
 start-begun w last = go (holds (length w) last 0 32)
   where
-    go : (b : Bool) → Begun (length w) (cond b (start-step.Answer (stormStart w)) start-step.More)
+    go : (b : Bool) → Begun (length w) (cond b (start-step.Answer (storm_start w)) start-step.More)
     go true = start-stays w
     go false = tt

@@ -6,14 +6,14 @@ use Prim.Native.Nat.{ℕ}
 use lib.IntN.{ℤ, pos, negsuc}
 use lib.ListN.{replicate}
 use Rattle.records.specs.declared.Refusal.{Refusal}
-use Rattle.records.specs.Refusals.{numberOf}
-use Rattle.records.specs.Groups.{wholes, stationAt, putStation, pointCount}
-use Rattle.records.specs.Limits.{countOk}
+use Rattle.records.specs.Refusals.{number_of}
+use Rattle.records.specs.Groups.{wholes, station_at, put_station, point_count}
+use Rattle.records.specs.Limits.{count_ok}
 use Rattle.records.specs.Shapes.{Traverse, Record, count}
-use Rattle.reader.specs.Text.{more, digitAt, digits, worth, goodOf, signedValue, startAt, goodAt, valueAt, pastAt, closeOf, eqZ}
-use Rattle.reader.specs.Lines.{Outcome, read, refused, Leaves, repeated, keptWith, sameWith, valuesAt, linesAt, spells, namesAt}
-use Rattle.reader.specs.Storm.{stormNames, stormStart, nextAt, keptAt, nextOf, tooFew, nextLeft, recordOf, Stop, ended, stopped, paused, unread, recordsBy, stormRest, stormOf}
-use Rattle.reader.specs.Traverse.{headNames, pointNames, start, withValues, storedAt, withPoint, lineAt, countedBy, endAt, restBy, restAt, traverseRead, traverseLeft, traverseOf}
+use Rattle.reader.specs.Text.{more, digit_at, digits, worth, good_of, signed_value, start_at, good_at, value_at, past_at, close_of, eq_z}
+use Rattle.reader.specs.Lines.{Outcome, read, refused, Leaves, repeated, kept_with, same_with, values_at, lines_at, spells, names_at}
+use Rattle.reader.specs.Storm.{storm_names, storm_start, next_at, kept_at, next_of, too_few, next_left, record_of, Stop, ended, stopped, paused, unread, records_by, storm_rest, storm_of}
+use Rattle.reader.specs.Traverse.{head_names, point_names, start, with_values, stored_at, with_point, line_at, counted_by, end_at, rest_by, rest_at, traverse_read, traverse_left, traverse_of}
 use Rattle.reader.specs.declared.storm.Next.{Next}
 use Rattle.reader.specs.declared.storm.Next.TheVariants as next
 use Rattle.reader.specs.declared.traverse.TraverseRead.{TraverseRead}
@@ -115,28 +115,28 @@ joined (l ∷ ls) = l ++ joined ls
 abbrev refusal : ℕ → ℕ → List ℤ
 refusal n p = pos n ∷ pos p ∷ []
 
-abbrev refusalNumbers : Refusal → List ℤ
-refusalNumbers r = refusal (numberOf r.kind) r.place
+abbrev refusal_numbers : Refusal → List ℤ
+refusal_numbers r = refusal (number_of r.kind) r.place
 
-abbrev traverseNumbers : Outcome Traverse → List ℤ
-traverseNumbers (read t at line) = t.head.latitude ∷ t.head.friction ∷ t.head.initial ∷ pos (count t) ∷ t.points
-traverseNumbers (refused r) = refusalNumbers r
+abbrev traverse_numbers : Outcome Traverse → List ℤ
+traverse_numbers (read t at line) = t.head.latitude ∷ t.head.friction ∷ t.head.initial ∷ pos (count t) ∷ t.points
+traverse_numbers (refused r) = refusal_numbers r
 
-abbrev recordNumbers : List Record → List ℤ
-recordNumbers [] = []
-recordNumbers (r ∷ rs) = r.closing.seconds ∷ r.closing.tide ∷ pos (pointCount r.points) ∷ (r.points ++ recordNumbers rs)
+abbrev record_numbers : List Record → List ℤ
+record_numbers [] = []
+record_numbers (r ∷ rs) = r.closing.seconds ∷ r.closing.tide ∷ pos (point_count r.points) ∷ (r.points ++ record_numbers rs)
 
-abbrev stormNumbers : List Record → Stop → List ℤ
-stormNumbers rs ended = recordNumbers rs
-stormNumbers rs (stopped r) = refusalNumbers r
-stormNumbers rs (paused at line) = []
-stormNumbers rs unread = []
+abbrev storm_numbers : List Record → Stop → List ℤ
+storm_numbers rs ended = record_numbers rs
+storm_numbers rs (stopped r) = refusal_numbers r
+storm_numbers rs (paused at line) = []
+storm_numbers rs unread = []
 
 abbrev same : List ℤ → List ℤ → Bool
 same [] [] = true
 same [] (b ∷ ys) = false
 same (a ∷ xs) [] = false
-same (a ∷ xs) (b ∷ ys) = cond (eqZ a b) (same xs ys) false
+same (a ∷ xs) (b ∷ ys) = cond (eq_z a b) (same xs ys) false
 
 -- whether every text of a list gives what it is said to give
 abbrev hold : (List ℕ → List ℤ) → List Example → Bool
@@ -148,27 +148,27 @@ traverses =
     -- no text
     record { lines = []; gives = refusal 1 1 } ∷
     -- the names line alone
-    record { lines = headNames ∷ []; gives = refusal 3 1 } ∷
+    record { lines = head_names ∷ []; gives = refusal 3 1 } ∷
     -- no line of point names
-    record { lines = headNames ∷ settings ∷ []; gives = refusal 3 2 } ∷
+    record { lines = head_names ∷ settings ∷ []; gives = refusal 3 2 } ∷
     -- two values for three
-    record { lines = headNames ∷ settings-short ∷ []; gives = refusal 2 2 } ∷
+    record { lines = head_names ∷ settings-short ∷ []; gives = refusal 2 2 } ∷
     -- no line feed after the last value
-    record { lines = headNames ∷ settings-open ∷ []; gives = refusal 2 2 } ∷
+    record { lines = head_names ∷ settings-open ∷ []; gives = refusal 2 2 } ∷
     -- no point
-    record { lines = headNames ∷ settings ∷ pointNames ∷ []; gives = refusal 3 3 } ∷
+    record { lines = head_names ∷ settings ∷ point_names ∷ []; gives = refusal 3 3 } ∷
     -- other names
-    record { lines = headNames ∷ settings ∷ other-names ∷ []; gives = refusal 1 3 } ∷
+    record { lines = head_names ∷ settings ∷ other-names ∷ []; gives = refusal 1 3 } ∷
     -- a leading zero
-    record { lines = headNames ∷ settings ∷ pointNames ∷ far ∷ zero-led ∷ []; gives = refusal 2 5 } ∷
+    record { lines = head_names ∷ settings ∷ point_names ∷ far ∷ zero-led ∷ []; gives = refusal 2 5 } ∷
     -- an empty line
-    record { lines = headNames ∷ settings ∷ pointNames ∷ far ∷ empty ∷ []; gives = refusal 2 5 } ∷
+    record { lines = head_names ∷ settings ∷ point_names ∷ far ∷ empty ∷ []; gives = refusal 2 5 } ∷
     -- two faulty lines: the earlier
-    record { lines = headNames ∷ settings ∷ pointNames ∷ far ∷ minus-zero ∷ lone ∷ []; gives = refusal 2 5 } ∷
+    record { lines = head_names ∷ settings ∷ point_names ∷ far ∷ minus-zero ∷ lone ∷ []; gives = refusal 2 5 } ∷
     -- one point
-    record { lines = headNames ∷ settings ∷ pointNames ∷ far ∷ []; gives = refusal 5 1 } ∷
+    record { lines = head_names ∷ settings ∷ point_names ∷ far ∷ []; gives = refusal 5 1 } ∷
     -- two points are read
-    record { lines = headNames ∷ settings ∷ pointNames ∷ far ∷ shore ∷ []; gives = pos 300 ∷ pos 25 ∷ negsuc 4 ∷ pos 2 ∷ pos 10 ∷ pos 5 ∷ pos 0 ∷ pos 7 ∷ [] } ∷ []
+    record { lines = head_names ∷ settings ∷ point_names ∷ far ∷ shore ∷ []; gives = pos 300 ∷ pos 25 ∷ negsuc 4 ∷ pos 2 ∷ pos 10 ∷ pos 5 ∷ pos 0 ∷ pos 7 ∷ [] } ∷ []
 
 -- for a traverse of two points
 abbrev storms : List Example
@@ -180,23 +180,23 @@ storms =
     -- other names
     record { lines = nearly ∷ []; gives = refusal 1 1 } ∷
     -- no record
-    record { lines = stormNames ∷ []; gives = refusal 3 1 } ∷
+    record { lines = storm_names ∷ []; gives = refusal 3 1 } ∷
     -- the text ends inside a record
-    record { lines = stormNames ∷ calm ∷ []; gives = refusal 3 2 } ∷
+    record { lines = storm_names ∷ calm ∷ []; gives = refusal 3 2 } ∷
     -- four values for five
-    record { lines = stormNames ∷ calm ∷ four ∷ []; gives = refusal 2 3 } ∷
+    record { lines = storm_names ∷ calm ∷ four ∷ []; gives = refusal 2 3 } ∷
     -- another tide
-    record { lines = stormNames ∷ calm ∷ tide ∷ []; gives = refusal 4 3 } ∷
+    record { lines = storm_names ∷ calm ∷ tide ∷ []; gives = refusal 4 3 } ∷
     -- another tide and a plus: the lower number
-    record { lines = stormNames ∷ calm ∷ tide-plus ∷ []; gives = refusal 2 3 } ∷
+    record { lines = storm_names ∷ calm ∷ tide-plus ∷ []; gives = refusal 2 3 } ∷
     -- ten digits
-    record { lines = stormNames ∷ calm ∷ ten ∷ []; gives = refusal 2 3 } ∷
+    record { lines = storm_names ∷ calm ∷ ten ∷ []; gives = refusal 2 3 } ∷
     -- no line feed after the last value
-    record { lines = stormNames ∷ calm ∷ calm ∷ calm-open ∷ []; gives = refusal 2 4 } ∷
+    record { lines = storm_names ∷ calm ∷ calm ∷ calm-open ∷ []; gives = refusal 2 4 } ∷
     -- the text ends inside the second record
-    record { lines = stormNames ∷ calm ∷ calm ∷ later ∷ []; gives = refusal 3 4 } ∷
+    record { lines = storm_names ∷ calm ∷ calm ∷ later ∷ []; gives = refusal 3 4 } ∷
     -- one record is read
-    record { lines = stormNames ∷ calm ∷ gale ∷ []; gives = pos 0 ∷ pos 1 ∷ pos 2 ∷ pos 2 ∷ pos 3 ∷ pos 4 ∷ negsuc 5 ∷ pos 7 ∷ pos 999999999 ∷ [] } ∷ []
+    record { lines = storm_names ∷ calm ∷ gale ∷ []; gives = pos 0 ∷ pos 1 ∷ pos 2 ∷ pos 2 ∷ pos 3 ∷ pos 4 ∷ negsuc 5 ∷ pos 7 ∷ pos 999999999 ∷ [] } ∷ []
 
 -- ---- what a call leaves in the numbers that it was lent, here nines
 
@@ -208,25 +208,25 @@ pub record LentExample : Type 0 where
 abbrev nines : ℕ → List ℤ
 nines n = replicate n (pos 9)
 
-abbrev holdLent : (List ℕ → List ℤ → List ℤ) → List LentExample → Bool
-holdLent f [] = true
-holdLent f (e ∷ es) = cond (same (f (joined e.lines) (nines e.lent)) e.gives) (holdLent f es) false
+abbrev hold_lent : (List ℕ → List ℤ → List ℤ) → List LentExample → Bool
+hold_lent f [] = true
+hold_lent f (e ∷ es) = cond (same (f (joined e.lines) (nines e.lent)) e.gives) (hold_lent f es) false
 
 -- the refusal, if there is one, and then the numbers
-abbrev nextNumbers : Leaves Next → List ℤ
-nextNumbers x = by x.answer ++ x.numbers
+abbrev next_numbers : Leaves Next → List ℤ
+next_numbers x = by x.answer ++ x.numbers
   where
     by : Next → List ℤ
     by (next.Read c) = []
     by next.End = []
-    by (next.Refused r) = refusalNumbers r
+    by (next.Refused r) = refusal_numbers r
 
-abbrev wholeNumbers : Leaves TraverseRead → List ℤ
-wholeNumbers x = by x.answer.answer ++ x.numbers
+abbrev whole_numbers : Leaves TraverseRead → List ℤ
+whole_numbers x = by x.answer.answer ++ x.numbers
   where
     by : Whole → List ℤ
     by whole.Read = []
-    by (whole.Refused r) = refusalNumbers r
+    by (whole.Refused r) = refusal_numbers r
 
 -- the first record of two points, past a names line of one byte
 abbrev records-lent : List LentExample
@@ -243,28 +243,28 @@ records-lent =
 abbrev traverses-lent : List LentExample
 traverses-lent =
     -- two points, and a spare place
-    record { lines = headNames ∷ settings ∷ pointNames ∷ far ∷ shore ∷ []; lent = 6; gives = pos 10 ∷ pos 5 ∷ pos 0 ∷ pos 7 ∷ pos 9 ∷ pos 9 ∷ [] } ∷
+    record { lines = head_names ∷ settings ∷ point_names ∷ far ∷ shore ∷ []; lent = 6; gives = pos 10 ∷ pos 5 ∷ pos 0 ∷ pos 7 ∷ pos 9 ∷ pos 9 ∷ [] } ∷
     -- room for the first of them
-    record { lines = headNames ∷ settings ∷ pointNames ∷ far ∷ shore ∷ []; lent = 2; gives = pos 8 ∷ pos 0 ∷ pos 10 ∷ pos 5 ∷ [] } ∷
+    record { lines = head_names ∷ settings ∷ point_names ∷ far ∷ shore ∷ []; lent = 2; gives = pos 8 ∷ pos 0 ∷ pos 10 ∷ pos 5 ∷ [] } ∷
     -- an odd number of numbers has no room
-    record { lines = headNames ∷ settings ∷ pointNames ∷ far ∷ shore ∷ []; lent = 5; gives = pos 8 ∷ pos 0 ∷ nines 5 } ∷
+    record { lines = head_names ∷ settings ∷ point_names ∷ far ∷ shore ∷ []; lent = 5; gives = pos 8 ∷ pos 0 ∷ nines 5 } ∷
     -- too few points come before too little room
-    record { lines = headNames ∷ settings ∷ pointNames ∷ far ∷ []; lent = 0; gives = refusal 5 1 } ∷
+    record { lines = head_names ∷ settings ∷ point_names ∷ far ∷ []; lent = 0; gives = refusal 5 1 } ∷
     -- a line that is refused stores nothing, the one before it did
-    record { lines = headNames ∷ settings ∷ pointNames ∷ far ∷ zero-led ∷ []; lent = 4; gives = pos 2 ∷ pos 5 ∷ pos 10 ∷ pos 5 ∷ pos 9 ∷ pos 9 ∷ [] } ∷ []
+    record { lines = head_names ∷ settings ∷ point_names ∷ far ∷ zero-led ∷ []; lent = 4; gives = pos 2 ∷ pos 5 ∷ pos 10 ∷ pos 5 ∷ pos 9 ∷ pos 9 ∷ [] } ∷ []
 
-pub traverse-examples : hold (λ s. traverseNumbers (traverseOf s)) traverses ≡ true
-unfolding traverseOf restAt restBy lineAt endAt countedBy countOk start withValues withPoint storedAt putStation stationAt wholes linesAt valuesAt repeated keptWith sameWith namesAt spells goodAt goodOf valueAt signedValue worth pastAt startAt digits digitAt closeOf more
+pub traverse-examples : hold (λ s. traverse_numbers (traverse_of s)) traverses ≡ true
+unfolding traverse_of rest_at rest_by line_at end_at counted_by count_ok start with_values with_point stored_at put_station station_at wholes lines_at values_at repeated kept_with same_with names_at spells good_at good_of value_at signed_value worth past_at start_at digits digit_at close_of more
 traverse-examples = refl
 
-pub storm-examples : hold (λ s. stormNumbers (stormOf s 2).records (stormOf s 2).stop) storms ≡ true
-unfolding stormOf stormRest recordsBy stormStart nextAt countOk recordOf wholes linesAt valuesAt repeated keptWith sameWith namesAt spells goodAt goodOf valueAt signedValue worth pastAt startAt digits digitAt closeOf more
+pub storm-examples : hold (λ s. storm_numbers (storm_of s 2).records (storm_of s 2).stop) storms ≡ true
+unfolding storm_of storm_rest records_by storm_start next_at count_ok record_of wholes lines_at values_at repeated kept_with same_with names_at spells good_at good_of value_at signed_value worth past_at start_at digits digit_at close_of more
 storm-examples = refl
 
-pub record-lent-examples : holdLent (λ s lent. nextNumbers (nextLeft s 2 1 1 lent)) records-lent ≡ true
-unfolding nextLeft tooFew nextOf nextAt keptAt countOk recordOf linesAt valuesAt repeated keptWith sameWith goodAt goodOf valueAt signedValue worth pastAt startAt digits digitAt closeOf more
+pub record-lent-examples : hold_lent (λ s lent. next_numbers (next_left s 2 1 1 lent)) records-lent ≡ true
+unfolding next_left too_few next_of next_at kept_at count_ok record_of lines_at values_at repeated kept_with same_with good_at good_of value_at signed_value worth past_at start_at digits digit_at close_of more
 record-lent-examples = refl
 
-pub traverse-lent-examples : holdLent (λ s lent. wholeNumbers (traverseLeft s lent)) traverses-lent ≡ true
-unfolding traverseLeft traverseRead restAt restBy lineAt endAt countedBy countOk start withValues withPoint storedAt putStation stationAt wholes linesAt valuesAt repeated keptWith sameWith namesAt spells goodAt goodOf valueAt signedValue worth pastAt startAt digits digitAt closeOf more
+pub traverse-lent-examples : hold_lent (λ s lent. whole_numbers (traverse_left s lent)) traverses-lent ≡ true
+unfolding traverse_left traverse_read rest_at rest_by line_at end_at counted_by count_ok start with_values with_point stored_at put_station station_at wholes lines_at values_at repeated kept_with same_with names_at spells good_at good_of value_at signed_value worth past_at start_at digits digit_at close_of more
 traverse-lent-examples = refl

@@ -17,8 +17,8 @@ use Rattle.records.specs.declared.Kind.TheVariants.{Malformed, Ended, Differs}
 use Rattle.records.specs.Refusals.{refusal}
 use Rattle.records.proofs.LimitLaws.{and_right}
 use Rattle.reader.proofs.Digits.{Scan, scan-ended, scan-count, scan-value}
-use Rattle.reader.specs.Text.{more, byte, digits, goodOf, signedValue, negativeAt, startAt, goodAt, valueAt, pastAt, closeOf, eqZ}
-use Rattle.reader.specs.Lines.{Leaves, leaves, laid, repeated, keptWith, sameWith, keptLeft, full, bad, closedAt, valuesAt, LinesRead, linesRead, linesAt, linesLeft}
+use Rattle.reader.specs.Text.{more, byte, digits, good_of, signed_value, negative_at, start_at, good_at, value_at, past_at, close_of, eq_z}
+use Rattle.reader.specs.Lines.{Leaves, leaves, laid, repeated, kept_with, same_with, kept_left, full, bad, closed_at, values_at, LinesRead, lines_read, lines_at, lines_left}
 use Rattle.reader.specs.declared.Kept.{Kept}
 use Rattle.reader.specs.declared.Lines.{Lines}
 use Rattle.reader.specs.declared.Lines.TheVariants.{Read, Refused}
@@ -32,40 +32,40 @@ present [] i b p h = omega arith
 present (x ∷ s) zero b p h = omega arith
 present (x ∷ s) (suc i) b p h = let r = present s i b p h in omega arith
 
-pub close-pos : (n : ℕ) → 0 < closeOf n
-unfolding closeOf
+pub close-pos : (n : ℕ) → 0 < close_of n
+unfolding close_of
 close-pos zero = omega arith
 close-pos (suc n) = simp eqb-suc-zero (omega arith)
 
--- ---- a value: at `at`, with its digits from `startAt s at` on
+-- ---- a value: at `at`, with its digits from `start_at s at` on
 
 module _ (s : List ℕ) (at : ℕ) where
-  pub too_long : 9 < digits s 10 (startAt s at) → goodAt s at ≡ false
-  unfolding goodAt goodOf
-  too_long h = simp (ne_eqb (digits s 10 (startAt s at)) 0 (omega arith), lt-ltb _ _ h)
+  pub too_long : 9 < digits s 10 (start_at s at) → good_at s at ≡ false
+  unfolding good_at good_of
+  too_long h = simp (ne_eqb (digits s 10 (start_at s at)) 0 (omega arith), lt-ltb _ _ h)
 
-  module _ {to count value d : ℕ} (h : Scan 10 s (startAt s at) to count value d) (e : 10 ≤ d) where
-    pub good-is : (negative : Bool) (first : ℕ) → negative ≡ negativeAt s at → first ≡ byte s (startAt s at) → goodAt s at ≡ goodOf negative count first
-    unfolding goodAt
+  module _ {to count value d : ℕ} (h : Scan 10 s (start_at s at) to count value d) (e : 10 ≤ d) where
+    pub good-is : (negative : Bool) (first : ℕ) → negative ≡ negative_at s at → first ≡ byte s (start_at s at) → good_at s at ≡ good_of negative count first
+    unfolding good_at
     good-is negative first p q = rw (scan-count h (scan-ended h e), p, q)
 
-    pub value-is : (negative : Bool) → negative ≡ negativeAt s at → valueAt s at ≡ signedValue negative value
-    unfolding valueAt
+    pub value-is : (negative : Bool) → negative ≡ negative_at s at → value_at s at ≡ signed_value negative value
+    unfolding value_at
     value-is negative p = rw (scan-value h (scan-ended h e), p)
 
-    pub past_is : pastAt s at ≡ to
-    unfolding pastAt
+    pub past_is : past_at s at ≡ to
+    unfolding past_at
     past_is = omega (arith, h.place, scan-count h (scan-ended h e))
 
 -- the value at hand is closed where its digits are good and the byte past them closes it
-pub closed_is : (s : List ℕ) (n at to count : ℕ) (negative : Bool) (first : ℕ) → goodAt s at ≡ goodOf negative count first → pastAt s at ≡ to
-    → closedAt s n at ≡ (goodOf negative count first && eqb (byte s to) (closeOf n))
+pub closed_is : (s : List ℕ) (n at to count : ℕ) (negative : Bool) (first : ℕ) → good_at s at ≡ good_of negative count first → past_at s at ≡ to
+    → closed_at s n at ≡ (good_of negative count first && eqb (byte s to) (close_of n))
 closed_is s n at to count negative first g p = rw (g, p)
 
 -- and then that byte is there
-pub closed-present : (s : List ℕ) (n at to : ℕ) → pastAt s at ≡ to → closedAt s n at ≡ true → to < length s
+pub closed-present : (s : List ℕ) (n at to : ℕ) → past_at s at ≡ to → closed_at s n at ≡ true → to < length s
 closed-present s n at to p e =
-    let h : pastAt s at < length s = present s (pastAt s at) (closeOf n) (close-pos n) (eqb-true _ _ (and_right (goodAt s at) (eqb (byte s (pastAt s at)) (closeOf n)) e)) in
+    let h : past_at s at < length s = present s (past_at s at) (close_of n) (close-pos n) (eqb-true _ _ (and_right (good_at s at) (eqb (byte s (past_at s at)) (close_of n)) e)) in
     omega arith
 
 -- ---- the numbers that are kept
@@ -98,31 +98,31 @@ pub laid-is : {lent out : List ℤ} {p₀ p : ℕ} → Keeping lent p₀ out p �
 laid-is {lent} {out} {p₀} {p} h = rw (length-take-le p out h.within, ← h.rest) (take-append-drop p out)
 
 -- where value k of line i is kept: those that lines share only of the first line
-abbrev pub numberPlace : ℕ → ℕ → ℕ → ℕ → ℕ
-numberPlace width shared zero k = k
-numberPlace width shared (suc i) k = shared + suc i * (width - shared) + (k - shared)
+abbrev pub number_place : ℕ → ℕ → ℕ → ℕ → ℕ
+number_place width shared zero k = k
+number_place width shared (suc i) k = shared + suc i * (width - shared) + (k - shared)
 
 module _ (width shared : ℕ) where
-  pub place-line : (i : ℕ) → shared ≤ width → numberPlace width shared (i + 1) 0 ≡ numberPlace width shared i width
+  pub place-line : (i : ℕ) → shared ≤ width → number_place width shared (i + 1) 0 ≡ number_place width shared i width
   place-line zero h = omega arith
   place-line (suc i) h = rw (add-one (suc i)) (omega (arith, suc-mul (suc i) (width - shared)))
 
-  pub place_kept : (i k : ℕ) → repeated shared i k ≡ false → numberPlace width shared i (k + 1) ≡ numberPlace width shared i k + 1
+  pub place_kept : (i k : ℕ) → repeated shared i k ≡ false → number_place width shared i (k + 1) ≡ number_place width shared i k + 1
   unfolding repeated
   place_kept zero k e = refl
   place_kept (suc i) k e = omega (arith, ltb-false k shared e)
 
-  pub place-again : (i k : ℕ) → repeated shared i k ≡ true → numberPlace width shared i (k + 1) ≡ numberPlace width shared i k
+  pub place-again : (i k : ℕ) → repeated shared i k ≡ true → number_place width shared i (k + 1) ≡ number_place width shared i k
   unfolding repeated
   place-again zero k e = absurd (never e)
   place-again (suc i) k e = omega (arith, ltb-true k shared e)
 
-  pub place-past : (i k : ℕ) → repeated shared i k ≡ true → k < numberPlace width shared i k
+  pub place-past : (i k : ℕ) → repeated shared i k ≡ true → k < number_place width shared i k
   unfolding repeated
   place-past zero k e = absurd (never e)
   place-past (suc i) k e = omega (arith, ltb-true k shared e)
 
-  pub place-room : (n i k : ℕ) → shared ≤ width → i < n → k < width → repeated shared i k ≡ false → numberPlace width shared i k < shared + n * (width - shared)
+  pub place-room : (n i k : ℕ) → shared ≤ width → i < n → k < width → repeated shared i k ≡ false → number_place width shared i k < shared + n * (width - shared)
   unfolding repeated
   place-room n zero k h l q e = let m : 1 * (width - shared) ≤ n * (width - shared) = mul-le-mul_right (width - shared) (omega arith) in omega arith
   place-room n (suc i) k h l q e =
@@ -131,15 +131,15 @@ module _ (width shared : ℕ) where
 
 -- what one value more, value k of line i, which is z, makes of what is kept
 pub record KeepsOne (width shared i k : ℕ) (z : ℤ) (x : Kept) (lent : List ℤ) (r : Kept) (out : List ℤ) : Type 0 where
-  pub place : r.next ≡ numberPlace width shared i (k + 1)
-  pub kept : take r.next out ≡ keptWith (repeated shared i k) z (take x.next lent)
-  pub same : r.same ≡ sameWith (repeated shared i k) k z (take x.next lent) x.same
+  pub place : r.next ≡ number_place width shared i (k + 1)
+  pub kept : take r.next out ≡ kept_with (repeated shared i k) z (take x.next lent)
+  pub same : r.same ≡ same_with (repeated shared i k) k z (take x.next lent) x.same
   pub keeping : Keeping lent x.next out r.next
 
-module _ (width shared n i k : ℕ) (v z : ℤ) (again : Bool) (x : Kept) (lent out : List ℤ) (r : Kept) (e : leaves r out ≡ keptLeft again k v x lent)
-    (q : again ≡ repeated shared i k) (u : v ≡ z) (place : x.next ≡ numberPlace width shared i k) (fit : shared + n * (width - shared) ≤ length lent)
+module _ (width shared n i k : ℕ) (v z : ℤ) (again : Bool) (x : Kept) (lent out : List ℤ) (r : Kept) (e : leaves r out ≡ kept_left again k v x lent)
+    (q : again ≡ repeated shared i k) (u : v ≡ z) (place : x.next ≡ number_place width shared i k) (fit : shared + n * (width - shared) ≤ length lent)
     (near : x.next ≤ length lent) (h : shared ≤ width) (l : i < n) (m : k < width) where
-  kept-so : leaves r out ≡ keptLeft (repeated shared i k) k z x lent
+  kept-so : leaves r out ≡ kept_left (repeated shared i k) k z x lent
   kept-so = e ∙ rw (q, u)
 
   behind : repeated shared i k ≡ true → k < x.next
@@ -148,35 +148,35 @@ module _ (width shared n i k : ℕ) (v z : ℤ) (again : Bool) (x : Kept) (lent 
   room : repeated shared i k ≡ false → x.next < length lent
   room t = omega (arith, place-room width shared n i k h l m t)
 
-  keep-place : r.next ≡ numberPlace width shared i (k + 1)
-  unfolding keptLeft
+  keep-place : r.next ≡ number_place width shared i (k + 1)
+  unfolding kept_left
   keep-place = go (repeated shared i k) refl kept-so
     where
-      go : (b : Bool) → repeated shared i k ≡ b → leaves r out ≡ keptLeft b k z x lent → r.next ≡ numberPlace width shared i (k + 1)
+      go : (b : Bool) → repeated shared i k ≡ b → leaves r out ≡ kept_left b k z x lent → r.next ≡ number_place width shared i (k + 1)
       go true t e = ap (λ (y : Leaves Kept). y.answer.next) e ∙ place ∙ sym (place-again width shared i k t)
       go false t e = ap (λ (y : Leaves Kept). y.answer.next) e ∙ ap (λ (y : ℕ). y + 1) place ∙ sym (place_kept width shared i k t)
 
-  keep-kept : take r.next out ≡ keptWith (repeated shared i k) z (take x.next lent)
-  unfolding keptLeft keptWith
+  keep-kept : take r.next out ≡ kept_with (repeated shared i k) z (take x.next lent)
+  unfolding kept_left kept_with
   keep-kept = go (repeated shared i k) kept-so room
     where
-      go : (b : Bool) → leaves r out ≡ keptLeft b k z x lent → (b ≡ false → x.next < length lent) → take r.next out ≡ keptWith b z (take x.next lent)
+      go : (b : Bool) → leaves r out ≡ kept_left b k z x lent → (b ≡ false → x.next < length lent) → take r.next out ≡ kept_with b z (take x.next lent)
       go true e f = ap (λ (y : Leaves Kept). take y.answer.next y.numbers) e
       go false e f = ap (λ (y : Leaves Kept). take y.answer.next y.numbers) e ∙ rw (add-one x.next) (take-suc-set lent x.next z (f refl))
 
-  keep_same : r.same ≡ sameWith (repeated shared i k) k z (take x.next lent) x.same
-  unfolding keptLeft sameWith
+  keep_same : r.same ≡ same_with (repeated shared i k) k z (take x.next lent) x.same
+  unfolding kept_left same_with
   keep_same = go (repeated shared i k) kept-so behind
     where
-      go : (b : Bool) → leaves r out ≡ keptLeft b k z x lent → (b ≡ true → k < x.next) → r.same ≡ sameWith b k z (take x.next lent) x.same
+      go : (b : Bool) → leaves r out ≡ kept_left b k z x lent → (b ≡ true → k < x.next) → r.same ≡ same_with b k z (take x.next lent) x.same
       go true e f = ap (λ (y : Leaves Kept). y.answer.same) e ∙ sym (rw (get_or-take x.next lent k (pos 0) (f refl)))
       go false e f = ap (λ (y : Leaves Kept). y.answer.same) e
 
   keep-keeping : Keeping lent x.next out r.next
-  unfolding keptLeft
+  unfolding kept_left
   keep-keeping = go (repeated shared i k) kept-so behind room
     where
-      go : (b : Bool) → leaves r out ≡ keptLeft b k z x lent → (b ≡ true → k < x.next) → (b ≡ false → x.next < length lent) → Keeping lent x.next out r.next
+      go : (b : Bool) → leaves r out ≡ kept_left b k z x lent → (b ≡ true → k < x.next) → (b ≡ false → x.next < length lent) → Keeping lent x.next out r.next
       go true e g f = subst (λ (y : Leaves Kept). Keeping lent x.next y.numbers y.answer.next) (sym e) (keeping_none lent x.next near)
       go false e g f =
           subst (λ (y : Leaves Kept). Keeping lent x.next y.numbers y.answer.next) (sym e)
@@ -186,7 +186,7 @@ module _ (width shared n i k : ℕ) (v z : ℤ) (again : Bool) (x : Kept) (lent 
   keeps-one = record { place = keep-place; kept = keep-kept; same = keep_same; keeping = keep-keeping }
 
 -- the place that it takes, or that it is compared with, is one of the lent
-pub keep-room : (width shared n i k p size : ℕ) (again : Bool) → again ≡ repeated shared i k → p ≡ numberPlace width shared i k → p ≤ size
+pub keep-room : (width shared n i k p size : ℕ) (again : Bool) → again ≡ repeated shared i k → p ≡ number_place width shared i k → p ≤ size
     → shared + n * (width - shared) ≤ size → shared ≤ width → i < n → k < width → cond again k p < size
 keep-room width shared n i k p size again q e near fit h l m = go again q
   where
@@ -197,47 +197,47 @@ keep-room width shared n i k p size again q e near fit h l m = go again q
 -- ---- a line
 
 module _ (s : List ℕ) (shared i n m k at : ℕ) (kept : List ℤ) (same : Bool) (e : n ≡ suc m) where
-  pub values-bad : closedAt s m at ≡ false → valuesAt s shared i n k at kept same ≡ bad kept
-  unfolding valuesAt
+  pub values-bad : closed_at s m at ≡ false → values_at s shared i n k at kept same ≡ bad kept
+  unfolding values_at
   values-bad g = rw (e, g)
 
-  pub values-more : closedAt s m at ≡ true → (k' next : ℕ) (l : List ℤ) (b : Bool) → k' ≡ k + 1 → next ≡ pastAt s at + 1
-      → l ≡ keptWith (repeated shared i k) (valueAt s at) kept → b ≡ sameWith (repeated shared i k) k (valueAt s at) kept same
-      → valuesAt s shared i m k' next l b ≡ valuesAt s shared i n k at kept same
-  unfolding valuesAt
+  pub values-more : closed_at s m at ≡ true → (k' next : ℕ) (l : List ℤ) (b : Bool) → k' ≡ k + 1 → next ≡ past_at s at + 1
+      → l ≡ kept_with (repeated shared i k) (value_at s at) kept → b ≡ same_with (repeated shared i k) k (value_at s at) kept same
+      → values_at s shared i m k' next l b ≡ values_at s shared i n k at kept same
+  unfolding values_at
   values-more g k' next l b u x y z = rw (u, x, y, z, e, g)
 
-pub values-done : (s : List ℕ) (shared i n k at : ℕ) (kept : List ℤ) (same : Bool) → n ≡ 0 → valuesAt s shared i n k at kept same ≡ full at kept same
-unfolding valuesAt
+pub values-done : (s : List ℕ) (shared i n k at : ℕ) (kept : List ℤ) (same : Bool) → n ≡ 0 → values_at s shared i n k at kept same ≡ full at kept same
+unfolding values_at
 values-done s shared i n k at kept same e = rw e
 
 -- ---- the lines
 
 pub lines-done : (s : List ℕ) (width shared n i at line : ℕ) (kept : List ℤ) → n ≡ 0
-    → linesAt s width shared n i at line kept ≡ linesRead (Read (record { at = at; line = line })) kept
-unfolding linesAt
+    → lines_at s width shared n i at line kept ≡ lines_read (Read (record { at = at; line = line })) kept
+unfolding lines_at
 lines-done s width shared n i at line kept e = rw e
 
 module _ (s : List ℕ) (width shared n m i at line : ℕ) (kept : List ℤ) (e : n ≡ suc m) where
-  pub lines-ended : length s ≤ at → linesAt s width shared n i at line kept ≡ linesRead (Refused (refusal Ended line)) kept
-  unfolding linesAt
+  pub lines-ended : length s ≤ at → lines_at s width shared n i at line kept ≡ lines_read (Refused (refusal Ended line)) kept
+  unfolding lines_at
   lines-ended h = rw (e, le-ltb _ _ h)
 
   module _ (l : ℕ) (o : List ℤ) (h : at < length s) (t : l ≡ more line) where
-    pub lines-bad : valuesAt s shared i width 0 at kept true ≡ bad o → linesAt s width shared n i at line kept ≡ linesRead (Refused (refusal Malformed l)) o
-    unfolding linesAt
+    pub lines-bad : values_at s shared i width 0 at kept true ≡ bad o → lines_at s width shared n i at line kept ≡ lines_read (Refused (refusal Malformed l)) o
+    unfolding lines_at
     lines-bad v = rw (t, e, lt-ltb _ _ h, v)
 
-    pub lines-differ : (a : ℕ) → valuesAt s shared i width 0 at kept true ≡ full a o false → linesAt s width shared n i at line kept ≡ linesRead (Refused (refusal Differs l)) o
-    unfolding linesAt
+    pub lines-differ : (a : ℕ) → values_at s shared i width 0 at kept true ≡ full a o false → lines_at s width shared n i at line kept ≡ lines_read (Refused (refusal Differs l)) o
+    unfolding lines_at
     lines-differ a v = rw (t, e, lt-ltb _ _ h, v)
 
-    pub lines_more : (a : ℕ) → valuesAt s shared i width 0 at kept true ≡ full a o true → linesAt s width shared m (i + 1) a l o ≡ linesAt s width shared n i at line kept
-    unfolding linesAt
+    pub lines_more : (a : ℕ) → values_at s shared i width 0 at kept true ≡ full a o true → lines_at s width shared m (i + 1) a l o ≡ lines_at s width shared n i at line kept
+    unfolding lines_at
     lines_more a v = rw (t, e, lt-ltb _ _ h, v)
 
 -- what the call leaves, from what it kept
-pub left_is : (x : LinesRead) (r : Lines) {lent out : List ℤ} {p₀ p : ℕ} → x ≡ linesRead r (take p out) → Keeping lent p₀ out p → leaves r out ≡ linesLeft x lent
+pub left_is : (x : LinesRead) (r : Lines) {lent out : List ℤ} {p₀ p : ℕ} → x ≡ lines_read r (take p out) → Keeping lent p₀ out p → leaves r out ≡ lines_left x lent
 left_is x r {lent} {out} {p₀} {p} e h = rw (e, laid-is h)
 
 -- ---- two signed numbers are the same where their bits are
@@ -249,7 +249,7 @@ eqb-by a b c d f g = go (eqb c d) refl
     go true e = eq-eqb a b (g (eqb-true c d e))
     go false e = ne_eqb a b (λ q. eqb-false c d e (f q))
 
-pub eq-bits : (a b : ℤ) → SFits w64 a → SFits w64 b → eqb (of_z w64 a) (of_z w64 b) ≡ eqZ a b
+pub eq-bits : (a b : ℤ) → SFits w64 a → SFits w64 b → eqb (of_z w64 a) (of_z w64 b) ≡ eq_z a b
 eq-bits (pos a) (pos b) f g = refl
 eq-bits (pos a) (negsuc b) f g = let x = f.sfits in let y = g.sfits in ne_eqb a (2 ^ 64 - suc b) (omega arith)
 eq-bits (negsuc a) (pos b) f g = let x = f.sfits in let y = g.sfits in ne_eqb (2 ^ 64 - suc a) b (omega arith)

@@ -11,11 +11,11 @@ use lib.IntN.{ℤ, pos}
 use borrow.Author.Tests.{ltb-false}
 use Rattle.records.specs.declared.Kind.TheVariants.{Ended, Points, Lent}
 use Rattle.records.specs.Refusals.{refusal}
-use Rattle.records.specs.Limits.{countOk, mostPoints}
+use Rattle.records.specs.Limits.{count_ok, most_points}
 use Rattle.records.proofs.GroupLaws.{wholes-times}
 use Rattle.reader.specs.Lines.{Outcome, read, refused, found, Leaves, leaves, laid, LinesRead}
-use Rattle.reader.specs.Storm.{recordOf, recordSize, recordIn, recordLines, Further, one, none, nextAt, keptAt, nextOf, tooFew, nextLeft, holdsRecord, needs-more, seen, recordStep, recordStepLeft}
-use Rattle.reader.specs.Lent.{Spared, NextSpares, HasRecord, NextHasRecord, seenAnswer, StepAnswers, StepSpares, StepHasRecord}
+use Rattle.reader.specs.Storm.{record_of, record_size, record_in, record_lines, Further, one, none, next_at, kept_at, next_of, too_few, next_left, holds_record, needs-more, seen, record_step, record_step_left}
+use Rattle.reader.specs.Lent.{Spared, NextSpares, HasRecord, NextHasRecord, seen_answer, StepAnswers, StepSpares, StepHasRecord}
 use Rattle.reader.specs.declared.Cursor.{Cursor}
 use Rattle.reader.specs.declared.Lines.{Lines}
 use Rattle.reader.specs.declared.Lines.TheVariants.{Read, Refused}
@@ -23,7 +23,7 @@ use Rattle.reader.specs.declared.storm.Next.{Next}
 use Rattle.reader.specs.declared.storm.Next.TheVariants as next
 use Rattle.reader.specs.declared.storm.RecordStep.{RecordStep}
 use Rattle.reader.specs.declared.storm.RecordStep.TheVariants as step
-use Rattle.reader.proofs.Laws.{numberPlace}
+use Rattle.reader.proofs.Laws.{number_place}
 use Rattle.reader.proofs.StormLaws.{counts-in}
 use Rattle.reader.proofs.KeptLaws.{LinesSize, AnswerSize, lines-size}
 
@@ -39,8 +39,8 @@ module _ (kept lent : List ℤ) where
       go : (d : ℕ) → length kept + d ≡ m → drop m (laid kept lent) ≡ drop m lent
       go d e = rw (← e, drop-append-add kept (drop (length kept) lent) d, drop-drop d (length kept) lent)
 
-  laid-record : (n : ℕ) → length kept ≡ recordSize n → recordOf kept ≡ recordIn n (laid kept lent)
-  unfolding recordOf
+  laid-record : (n : ℕ) → length kept ≡ record_size n → record_of kept ≡ record_in n (laid kept lent)
+  unfolding record_of
   laid-record n h =
       let r = drop (length kept) lent in
       let l : length (drop 2 kept) ≡ 3 * n = length-drop 2 kept ∙ omega arith in
@@ -49,70 +49,70 @@ module _ (kept lent : List ℤ) where
 -- ---- the numbers that are kept of a record
 
 module _ (s : List ℕ) (n at line : ℕ) where
-  record-size : countOk mostPoints n ≡ true → LinesSize (recordSize n) (recordLines s n at line)
+  record-size : count_ok most_points n ≡ true → LinesSize (record_size n) (record_lines s n at line)
   record-size e =
-      let k = counts-in mostPoints n e in
-      subst (λ (m : ℕ). LinesSize m (recordLines s n at line)) (places n (omega arith)) (lines-size 5 2 s n 0 n at line [] (omega arith) (omega arith) refl)
+      let k = counts-in most_points n e in
+      subst (λ (m : ℕ). LinesSize m (record_lines s n at line)) (places n (omega arith)) (lines-size 5 2 s n 0 n at line [] (omega arith) (omega arith) refl)
     where
-      places : (n : ℕ) → 0 < n → numberPlace 5 2 n 0 ≡ recordSize n
+      places : (n : ℕ) → 0 < n → number_place 5 2 n 0 ≡ record_size n
       places zero h = absurd (omega arith)
       places (suc n) h = omega arith
 
-  some : (a : Lines) (l : List ℤ) → AnswerSize (recordSize n) a l → length l ≤ recordSize n
+  some : (a : Lines) (l : List ℤ) → AnswerSize (record_size n) a l → length l ≤ record_size n
   some (Read c) l h = omega arith
   some (Refused q) l h = h
 
-  kept-few : length (keptAt s n at line) ≤ recordSize n
-  unfolding keptAt
-  kept-few = go (countOk mostPoints n) refl (ltb at (length s))
+  kept-few : length (kept_at s n at line) ≤ record_size n
+  unfolding kept_at
+  kept-few = go (count_ok most_points n) refl (ltb at (length s))
     where
-      go : (b : Bool) → countOk mostPoints n ≡ b → (c : Bool) → length (cond b (cond c (recordLines s n at line).kept []) []) ≤ recordSize n
-      go true e true = some (recordLines s n at line).answer (recordLines s n at line).kept (record-size e)
+      go : (b : Bool) → count_ok most_points n ≡ b → (c : Bool) → length (cond b (cond c (record_lines s n at line).kept []) []) ≤ record_size n
+      go true e true = some (record_lines s n at line).answer (record_lines s n at line).kept (record-size e)
       go true e false = omega arith
       go false e c = omega arith
 
-  kept-fits : (size : ℕ) → tooFew n size ≡ false → length (keptAt s n at line) ≤ size
-  unfolding tooFew keptAt
-  kept-fits size e = go (countOk mostPoints n) refl e (ltb at (length s))
+  kept-fits : (size : ℕ) → too_few n size ≡ false → length (kept_at s n at line) ≤ size
+  unfolding too_few kept_at
+  kept-fits size e = go (count_ok most_points n) refl e (ltb at (length s))
     where
-      go : (b : Bool) → countOk mostPoints n ≡ b → (b && ltb size (recordSize n)) ≡ false → (c : Bool) → length (cond b (cond c (recordLines s n at line).kept []) []) ≤ size
-      go true e f true = omega (arith, ltb-false size (recordSize n) f, some (recordLines s n at line).answer (recordLines s n at line).kept (record-size e))
+      go : (b : Bool) → count_ok most_points n ≡ b → (b && ltb size (record_size n)) ≡ false → (c : Bool) → length (cond b (cond c (record_lines s n at line).kept []) []) ≤ size
+      go true e f true = omega (arith, ltb-false size (record_size n) f, some (record_lines s n at line).answer (record_lines s n at line).kept (record-size e))
       go true e f false = omega arith
       go false e f c = omega arith
 
 -- ---- the next record
 
 pub next-spares : NextSpares
-unfolding nextLeft
-next-spares s n at line lent = go (tooFew n (length lent)) refl
+unfolding next_left
+next-spares s n at line lent = go (too_few n (length lent)) refl
   where
-    go : (b : Bool) → tooFew n (length lent) ≡ b
-        → Spared n lent (cond b (leaves (next.Refused (refusal Lent 0)) lent) (leaves (nextOf (nextAt s n at line)) (laid (keptAt s n at line) lent))).numbers
+    go : (b : Bool) → too_few n (length lent) ≡ b
+        → Spared n lent (cond b (leaves (next.Refused (refusal Lent 0)) lent) (leaves (next_of (next_at s n at line)) (laid (kept_at s n at line) lent))).numbers
     go true e = record { size = refl; spare = refl }
     go false e = record {
-      size = laid-size (keptAt s n at line) lent (kept-fits s n at line (length lent) e);
-      spare = laid-spare (keptAt s n at line) lent (recordSize n) (kept-few s n at line);
+      size = laid-size (kept_at s n at line) lent (kept-fits s n at line (length lent) e);
+      spare = laid-spare (kept_at s n at line) lent (record_size n) (kept-few s n at line);
     }
 
 -- what a call answers and leaves, by the tests that it makes and the lines that it reads
-abbrev outcomeBy : ℕ → ℕ → ℕ → Bool → Bool → LinesRead → Outcome Further
-outcomeBy n at line k b x = cond k (cond b (found x.answer (one (recordOf x.kept))) (cond (ltb 1 line) (read none at line) (refused (refusal Ended line)))) (refused (refusal Points n))
+abbrev outcome_by : ℕ → ℕ → ℕ → Bool → Bool → LinesRead → Outcome Further
+outcome_by n at line k b x = cond k (cond b (found x.answer (one (record_of x.kept))) (cond (ltb 1 line) (read none at line) (refused (refusal Ended line)))) (refused (refusal Points n))
 
-abbrev leftBy : ℕ → ℕ → ℕ → List ℤ → Bool → Bool → Bool → LinesRead → Leaves Next
-leftBy n at line lent k t b x =
-    cond (k && t) (leaves (next.Refused (refusal Lent 0)) lent) (leaves (nextOf (outcomeBy n at line k b x)) (laid (cond k (cond b x.kept []) []) lent))
+abbrev left_by : ℕ → ℕ → ℕ → List ℤ → Bool → Bool → Bool → LinesRead → Leaves Next
+left_by n at line lent k t b x =
+    cond (k && t) (leaves (next.Refused (refusal Lent 0)) lent) (leaves (next_of (outcome_by n at line k b x)) (laid (cond k (cond b x.kept []) []) lent))
 
 -- where it answers a record: all its tests passed, and the lines were read
 record Passed (n at line : ℕ) (lent : List ℤ) (c : Cursor) (k t b : Bool) (x : LinesRead) : Type 0 where
   pub counted : k ≡ true
   pub enough : t ≡ false
   pub answer : x.answer ≡ Read c
-  pub outcome : outcomeBy n at line k b x ≡ read (one (recordOf x.kept)) c.at c.line
-  pub numbers : (leftBy n at line lent k t b x).numbers ≡ laid x.kept lent
+  pub outcome : outcome_by n at line k b x ≡ read (one (record_of x.kept)) c.at c.line
+  pub numbers : (left_by n at line lent k t b x).numbers ≡ laid x.kept lent
 
 module _ (n at line : ℕ) (lent : List ℤ) (c : Cursor) where
-  passed : (k t b : Bool) (a : Lines) (l : List ℤ) → (leftBy n at line lent k t b (record { answer = a; kept = l })).answer ≡ next.Read c → Passed n at line lent c k t b (record { answer = a; kept = l })
-  unfolding nextOf
+  passed : (k t b : Bool) (a : Lines) (l : List ℤ) → (left_by n at line lent k t b (record { answer = a; kept = l })).answer ≡ next.Read c → Passed n at line lent c k t b (record { answer = a; kept = l })
+  unfolding next_of
   passed true true b a l e = let z : ◌≡◌ {A = ℕ} 0 1 = cc in absurd (omega arith)
   passed true false true (Read d) l e =
       let u : d ≡ c = cc in
@@ -120,60 +120,60 @@ module _ (n at line : ℕ) (lent : List ℤ) (c : Cursor) where
   passed true false true (Refused q) l e = let z : ◌≡◌ {A = ℕ} 0 1 = cc in absurd (omega arith)
   passed true false false a l e = absurd (go (ltb 1 line) e)
     where
-      go : (b : Bool) → nextOf (cond b (read none at line) (refused (refusal Ended line))) ≡ next.Read c → ⊥
+      go : (b : Bool) → next_of (cond b (read none at line) (refused (refusal Ended line))) ≡ next.Read c → ⊥
       go true e = let z : ◌≡◌ {A = ℕ} 0 1 = cc in omega arith
       go false e = let z : ◌≡◌ {A = ℕ} 0 1 = cc in omega arith
   passed false t b a l e = let z : ◌≡◌ {A = ℕ} 0 1 = cc in absurd (omega arith)
 
-has-record : (n : ℕ) (l : List ℤ) → countOk mostPoints n ≡ true → recordSize n ≤ length l → HasRecord n l
+has-record : (n : ℕ) (l : List ℤ) → count_ok most_points n ≡ true → record_size n ≤ length l → HasRecord n l
 has-record n l k h =
     let e : length (take (3 * n) (drop 2 l)) ≡ 3 * n = length-take-le (3 * n) (drop 2 l) (simp length-drop (omega arith)) in
     record { counted = k; room = h; numbers = e; points = rw e (wholes-times 3 n (omega arith)) }
 
 pub next-has-record : NextHasRecord
-unfolding nextLeft tooFew nextAt keptAt
+unfolding next_left too_few next_at kept_at
 next-has-record s n at line lent c e =
-    let x = recordLines s n at line in
-    let p = passed n at line lent c (countOk mostPoints n) (ltb (length lent) (recordSize n)) (ltb at (length s)) x.answer x.kept e in
-    let z : length x.kept ≡ recordSize n = size x.answer x.kept p.answer (record-size s n at line p.counted) in
-    let f : recordSize n ≤ length lent = ltb-false _ _ p.enough in
+    let x = record_lines s n at line in
+    let p = passed n at line lent c (count_ok most_points n) (ltb (length lent) (record_size n)) (ltb at (length s)) x.answer x.kept e in
+    let z : length x.kept ≡ record_size n = size x.answer x.kept p.answer (record-size s n at line p.counted) in
+    let f : record_size n ≤ length lent = ltb-false _ _ p.enough in
     let m : length (laid x.kept lent) ≡ length lent = laid-size x.kept lent (omega arith) in (
       subst (λ (l : List ℤ). HasRecord n l) (sym p.numbers) (has-record n (laid x.kept lent) p.counted (omega arith)),
-      p.outcome ∙ ap (λ r. read (one r) c.at c.line) (laid-record x.kept lent n z ∙ ap (recordIn n) (sym p.numbers)),
+      p.outcome ∙ ap (λ r. read (one r) c.at c.line) (laid-record x.kept lent n z ∙ ap (record_in n) (sym p.numbers)),
     )
   where
-    size : (a : Lines) (l : List ℤ) → a ≡ Read c → AnswerSize (recordSize n) a l → length l ≡ recordSize n
+    size : (a : Lines) (l : List ℤ) → a ≡ Read c → AnswerSize (record_size n) a l → length l ≡ record_size n
     size (Read d) l q h = h
     size (Refused r) l q h = let z : ◌≡◌ {A = ℕ} 0 1 = cc in absurd (omega arith)
 
 -- ---- a step
 
 pub step-answers : StepAnswers
-unfolding recordStepLeft recordStep nextLeft
-step-answers w last n at line lent e = rw e (go (holdsRecord (length w) last n at))
+unfolding record_step_left record_step next_left
+step-answers w last n at line lent e = rw e (go (holds_record (length w) last n at))
   where
-    go : (b : Bool) → (cond {A = Leaves RecordStep} b (leaves (step.Answer (nextOf (nextAt w n at line))) (laid (keptAt w n at line) lent)) (leaves step.More lent)).answer
-        ≡ seenAnswer (cond b (seen (nextAt w n at line)) needs-more)
+    go : (b : Bool) → (cond {A = Leaves RecordStep} b (leaves (step.Answer (next_of (next_at w n at line))) (laid (kept_at w n at line) lent)) (leaves step.More lent)).answer
+        ≡ seen_answer (cond b (seen (next_at w n at line)) needs-more)
     go true = refl
     go false = refl
 
 pub step-spares : StepSpares
-unfolding recordStepLeft
-step-spares w last n at line lent = go (holdsRecord (length w) last n at)
+unfolding record_step_left
+step-spares w last n at line lent = go (holds_record (length w) last n at)
   where
-    go : (b : Bool) → Spared n lent (cond {A = Leaves RecordStep} b (leaves (step.Answer (nextLeft w n at line lent).answer) (nextLeft w n at line lent).numbers) (leaves step.More lent)).numbers
+    go : (b : Bool) → Spared n lent (cond {A = Leaves RecordStep} b (leaves (step.Answer (next_left w n at line lent).answer) (next_left w n at line lent).numbers) (leaves step.More lent)).numbers
     go true = next-spares w n at line lent
     go false = record { size = refl; spare = refl }
 
 pub step-has-record : StepHasRecord
-unfolding recordStepLeft recordStep
-step-has-record w last n at line lent c e = go (holdsRecord (length w) last n at) e
+unfolding record_step_left record_step
+step-has-record w last n at line lent c e = go (holds_record (length w) last n at) e
   where
-    go : (b : Bool) → (cond {A = Leaves RecordStep} b (leaves (step.Answer (nextLeft w n at line lent).answer) (nextLeft w n at line lent).numbers) (leaves step.More lent)).answer ≡ step.Answer (next.Read c)
-        → HasRecord n (cond {A = Leaves RecordStep} b (leaves (step.Answer (nextLeft w n at line lent).answer) (nextLeft w n at line lent).numbers) (leaves step.More lent)).numbers
-        × (cond b (seen (nextAt w n at line)) needs-more ≡ seen (read (one (recordIn n (cond {A = Leaves RecordStep} b (leaves (step.Answer (nextLeft w n at line lent).answer) (nextLeft w n at line lent).numbers) (leaves step.More lent)).numbers)) c.at c.line))
+    go : (b : Bool) → (cond {A = Leaves RecordStep} b (leaves (step.Answer (next_left w n at line lent).answer) (next_left w n at line lent).numbers) (leaves step.More lent)).answer ≡ step.Answer (next.Read c)
+        → HasRecord n (cond {A = Leaves RecordStep} b (leaves (step.Answer (next_left w n at line lent).answer) (next_left w n at line lent).numbers) (leaves step.More lent)).numbers
+        × (cond b (seen (next_at w n at line)) needs-more ≡ seen (read (one (record_in n (cond {A = Leaves RecordStep} b (leaves (step.Answer (next_left w n at line lent).answer) (next_left w n at line lent).numbers) (leaves step.More lent)).numbers)) c.at c.line))
     go true e =
-        let q : (nextLeft w n at line lent).answer ≡ next.Read c = cc in
+        let q : (next_left w n at line lent).answer ≡ next.Read c = cc in
         let h = next-has-record w n at line lent c q in
         (h.0, ap seen h.1)
     go false e = let z : ◌≡◌ {A = ℕ} 0 1 = cc in absurd (omega arith)

@@ -12,7 +12,7 @@ use borrow.Author.Tests.{eq-eqb, ne_eqb, lt-ltb, le-ltb, ltb-true}
 use Rattle.records.specs.declared.Kind.TheVariants.{Names}
 use Rattle.records.specs.Refusals.{refusal}
 use Rattle.reader.specs.Text.{more, byte}
-use Rattle.reader.specs.Lines.{spells, namesAt}
+use Rattle.reader.specs.Lines.{spells, names_at}
 use Rattle.reader.specs.declared.Lines.TheVariants.{Read, Refused}
 use Rattle.reader.proofs.Laws.{never}
 
@@ -47,10 +47,10 @@ spells-fits most s (b ∷ want) at h k e = go (spells-fits most s want (at + 1))
     go f false l u g = absurd (never g)
 
 module _ (s want : List ℕ) (at line l : ℕ) (t : l ≡ more line) where
-  pub names-no : spells s at want ≡ false → Refused (refusal Names l) ≡ namesAt s want at line
-  unfolding namesAt
+  pub names-no : spells s at want ≡ false → Refused (refusal Names l) ≡ names_at s want at line
+  unfolding names_at
   names-no e = rw (e, t)
 
-  pub names-yes : (to : ℕ) → to ≡ at + length want → spells s at want ≡ true → Read (record { at = to; line = l }) ≡ namesAt s want at line
-  unfolding namesAt
+  pub names-yes : (to : ℕ) → to ≡ at + length want → spells s at want ≡ true → Read (record { at = to; line = l }) ≡ names_at s want at line
+  unfolding names_at
   names-yes to u e = rw (e, t, u)

@@ -5,7 +5,7 @@ use Rattle.std.specs.Prelude.{ℕ, zero, suc, ◌+◌, List, [], ◌∷◌, ◌+
 use Rattle.records.specs.declared.Kind.TheVariants.{Names, Malformed, Ended, Differs}
 use Rattle.records.specs.declared.Refusal.{Refusal}
 use Rattle.records.specs.Refusals.{refusal}
-use Rattle.reader.specs.Text.{more, byte, goodAt, valueAt, pastAt, closeOf, eqZ}
+use Rattle.reader.specs.Text.{more, byte, good_at, value_at, past_at, close_of, eq_z}
 use Rattle.reader.specs.declared.Kept.{Kept}
 use Rattle.reader.specs.declared.Lines.{Lines}
 use Rattle.reader.specs.declared.Lines.TheVariants.{Read, Refused}
@@ -42,20 +42,20 @@ repeated shared zero k = false
 repeated shared (suc i) k = ltb k shared
 
 -- what is kept after the value v, and whether all shared values so far are those of the first line
-unfoldable pub keptWith : Bool → ℤ → List ℤ → List ℤ
-keptWith again v kept = cond again kept (kept ++ (v ∷ []))
+unfoldable pub kept_with : Bool → ℤ → List ℤ → List ℤ
+kept_with again v kept = cond again kept (kept ++ (v ∷ []))
 
-unfoldable pub sameWith : Bool → ℕ → ℤ → List ℤ → Bool → Bool
-sameWith again k v kept same = cond again (eqZ (get_or kept k (pos 0)) v && same) same
+unfoldable pub same_with : Bool → ℕ → ℤ → List ℤ → Bool → Bool
+same_with again k v kept same = cond again (eq_z (get_or kept k (pos 0)) v && same) same
 
 -- the same in the code's terms, where the next free place is counted: before the first value, and after one
-abbrev pub noneKept : Kept
-noneKept = record { next = 0; same = true }
+abbrev pub none_kept : Kept
+none_kept = record { next = 0; same = true }
 
-unfoldable pub keptLeft : Bool → ℕ → ℤ → Kept → List ℤ → Leaves Kept
-keptLeft again k v x lent =
+unfoldable pub kept_left : Bool → ℕ → ℤ → Kept → List ℤ → Leaves Kept
+kept_left again k v x lent =
     cond again
-    (leaves (record { next = x.next; same = sameWith true k v lent x.same }) lent)
+    (leaves (record { next = x.next; same = same_with true k v lent x.same }) lent)
     (leaves (record { next = x.next + 1; same = x.same }) (set lent x.next v))
 
 -- the rest of a value line: the place past its line feed, what is kept and whether the shared values are the same; or malformed
@@ -64,17 +64,17 @@ pub data Line : Type 0 where
   bad : List ℤ → Line
 
 -- whether the value at a place is one, and the byte past it closes it with n more behind it
-abbrev pub closedAt : List ℕ → ℕ → ℕ → Bool
-closedAt s n at = goodAt s at && eqb (byte s (pastAt s at)) (closeOf n)
+abbrev pub closed_at : List ℕ → ℕ → ℕ → Bool
+closed_at s n at = good_at s at && eqb (byte s (past_at s at)) (close_of n)
 
 -- n more values of line i, from value k on; one space between two, the line feed after the last
-unfoldable pub valuesAt : List ℕ → ℕ → ℕ → ℕ → ℕ → ℕ → List ℤ → Bool → Line
-valuesAt s shared i zero k at kept same = full at kept same
-valuesAt s shared i (suc n) k at kept same =
-    cond (closedAt s n at)
-    (valuesAt s shared i n (k + 1) (pastAt s at + 1)
-    (keptWith (repeated shared i k) (valueAt s at) kept)
-    (sameWith (repeated shared i k) k (valueAt s at) kept same))
+unfoldable pub values_at : List ℕ → ℕ → ℕ → ℕ → ℕ → ℕ → List ℤ → Bool → Line
+values_at s shared i zero k at kept same = full at kept same
+values_at s shared i (suc n) k at kept same =
+    cond (closed_at s n at)
+    (values_at s shared i n (k + 1) (past_at s at + 1)
+    (kept_with (repeated shared i k) (value_at s at) kept)
+    (same_with (repeated shared i k) k (value_at s at) kept same))
     (bad kept)
 
 -- ---- lines of values
@@ -84,27 +84,27 @@ pub record LinesRead : Type 0 where
   pub answer : Lines
   pub kept : List ℤ
 
-abbrev pub linesRead : Lines → List ℤ → LinesRead
-linesRead a l = record { answer = a; kept = l }
+abbrev pub lines_read : Lines → List ℤ → LinesRead
+lines_read a l = record { answer = a; kept = l }
 
 -- after a value line: 2 if it is malformed, 4 if its shared values differ, otherwise what follows
 abbrev pub after : Line → ℕ → (ℕ → List ℤ → LinesRead) → LinesRead
 after (full at kept true) line next = next at kept
-after (full at kept false) line next = linesRead (Refused (refusal Differs line)) kept
-after (bad kept) line next = linesRead (Refused (refusal Malformed line)) kept
+after (full at kept false) line next = lines_read (Refused (refusal Differs line)) kept
+after (bad kept) line next = lines_read (Refused (refusal Malformed line)) kept
 
 -- n more lines of so many values, from line i on, of which each shares the first `shared` with line 0: 3 with the last line where the text has
 -- ended, then 2, then 4, line by line
-unfoldable pub linesAt : List ℕ → ℕ → ℕ → ℕ → ℕ → ℕ → ℕ → List ℤ → LinesRead
-linesAt s width shared zero i at line kept = linesRead (Read (record { at = at; line = line })) kept
-linesAt s width shared (suc n) i at line kept =
+unfoldable pub lines_at : List ℕ → ℕ → ℕ → ℕ → ℕ → ℕ → ℕ → List ℤ → LinesRead
+lines_at s width shared zero i at line kept = lines_read (Read (record { at = at; line = line })) kept
+lines_at s width shared (suc n) i at line kept =
     cond (ltb at (length s))
-    (after (valuesAt s shared i width 0 at kept true) (more line) (λ a l. linesAt s width shared n (i + 1) a (more line) l))
-    (linesRead (Refused (refusal Ended line)) kept)
+    (after (values_at s shared i width 0 at kept true) (more line) (λ a l. lines_at s width shared n (i + 1) a (more line) l))
+    (lines_read (Refused (refusal Ended line)) kept)
 
 -- in the code's terms: the answer, and what was kept laid into the lent numbers
-abbrev pub linesLeft : LinesRead → List ℤ → Leaves Lines
-linesLeft x lent = leaves x.answer (laid x.kept lent)
+abbrev pub lines_left : LinesRead → List ℤ → Leaves Lines
+lines_left x lent = leaves x.answer (laid x.kept lent)
 
 -- ---- a line of names
 
@@ -114,8 +114,8 @@ spells s at [] = true
 spells s at (b ∷ want) = cond (ltb at (length s)) (cond (eqb (byte s at) b) (spells s (at + 1) want) false) false
 
 -- a line of names, which are given with their line feed: 1 where it is different, or where the text ends in it
-unfoldable pub namesAt : List ℕ → List ℕ → ℕ → ℕ → Lines
-namesAt s want at line = cond (spells s at want) (Read (record { at = at + length want; line = more line })) (Refused (refusal Names (more line)))
+unfoldable pub names_at : List ℕ → List ℕ → ℕ → ℕ → Lines
+names_at s want at line = cond (spells s at want) (Read (record { at = at + length want; line = more line })) (Refused (refusal Names (more line)))
 
 -- ---- windows
 

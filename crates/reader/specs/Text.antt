@@ -11,51 +11,51 @@ abbrev pub byte : List ℕ → ℕ → ℕ
 byte s i = get_or s i 0
 
 -- the digit that a byte is, and 10 where it is none
-abbrev pub digitOf : ℕ → ℕ
-digitOf b = cond (ltb b 48) 10 (cond (ltb 57 b) 10 (b - 48))
+abbrev pub digit_of : ℕ → ℕ
+digit_of b = cond (ltb b 48) 10 (cond (ltb 57 b) 10 (b - 48))
 
-unfoldable pub digitAt : List ℕ → ℕ → ℕ
-digitAt s i = digitOf (byte s i)
+unfoldable pub digit_at : List ℕ → ℕ → ℕ
+digit_at s i = digit_of (byte s i)
 
 -- how many digits stand from a place on, counted to n at most
 unfoldable pub digits : List ℕ → ℕ → ℕ → ℕ
 digits s zero at = 0
-digits s (suc n) at = cond (ltb (digitAt s at) 10) (suc (digits s n (at + 1))) 0
+digits s (suc n) at = cond (ltb (digit_at s at) 10) (suc (digits s n (at + 1))) 0
 
 -- what n digits from a place on are worth, after the number v
 unfoldable pub worth : List ℕ → ℕ → ℕ → ℕ → ℕ
 worth s v zero at = v
-worth s v (suc n) at = worth s (v * 10 + digitAt s at) n (at + 1)
+worth s v (suc n) at = worth s (v * 10 + digit_at s at) n (at + 1)
 
 -- whether n digits, of which the first is the byte b, are a value: one to nine, no leading zero, no minus nought
-unfoldable pub goodOf : Bool → ℕ → ℕ → Bool
-goodOf negative n b = cond (eqb n 0) false (cond (ltb 9 n) false (cond (eqb b 48) (cond negative false (eqb n 1)) true))
+unfoldable pub good_of : Bool → ℕ → ℕ → Bool
+good_of negative n b = cond (eqb n 0) false (cond (ltb 9 n) false (cond (eqb b 48) (cond negative false (eqb n 1)) true))
 
-unfoldable pub signedValue : Bool → ℕ → ℤ
-signedValue negative m = cond negative (neg_ℤ (pos m)) (pos m)
+unfoldable pub signed_value : Bool → ℕ → ℤ
+signed_value negative m = cond negative (neg_ℤ (pos m)) (pos m)
 
 -- the value at a place: whether it has a minus, where its digits start, whether it is a value, what it is, the place past it
-abbrev pub negativeAt : List ℕ → ℕ → Bool
-negativeAt s at = eqb (byte s at) 45
+abbrev pub negative_at : List ℕ → ℕ → Bool
+negative_at s at = eqb (byte s at) 45
 
-unfoldable pub startAt : List ℕ → ℕ → ℕ
-startAt s at = cond (negativeAt s at) (at + 1) at
+unfoldable pub start_at : List ℕ → ℕ → ℕ
+start_at s at = cond (negative_at s at) (at + 1) at
 
-unfoldable pub goodAt : List ℕ → ℕ → Bool
-goodAt s at = goodOf (negativeAt s at) (digits s 10 (startAt s at)) (byte s (startAt s at))
+unfoldable pub good_at : List ℕ → ℕ → Bool
+good_at s at = good_of (negative_at s at) (digits s 10 (start_at s at)) (byte s (start_at s at))
 
-unfoldable pub valueAt : List ℕ → ℕ → ℤ
-valueAt s at = signedValue (negativeAt s at) (worth s 0 (digits s 10 (startAt s at)) (startAt s at))
+unfoldable pub value_at : List ℕ → ℕ → ℤ
+value_at s at = signed_value (negative_at s at) (worth s 0 (digits s 10 (start_at s at)) (start_at s at))
 
-unfoldable pub pastAt : List ℕ → ℕ → ℕ
-pastAt s at = startAt s at + digits s 10 (startAt s at)
+unfoldable pub past_at : List ℕ → ℕ → ℕ
+past_at s at = start_at s at + digits s 10 (start_at s at)
 
 -- the byte that closes a value with n more behind it in its line: a space, or the line feed
-unfoldable pub closeOf : ℕ → ℕ
-closeOf n = cond (eqb n 0) 10 32
+unfoldable pub close_of : ℕ → ℕ
+close_of n = cond (eqb n 0) 10 32
 
-abbrev pub eqZ : ℤ → ℤ → Bool
-eqZ (pos a) (pos b) = eqb a b
-eqZ (pos a) (negsuc b) = false
-eqZ (negsuc a) (pos b) = false
-eqZ (negsuc a) (negsuc b) = eqb a b
+abbrev pub eq_z : ℤ → ℤ → Bool
+eq_z (pos a) (pos b) = eqb a b
+eq_z (pos a) (negsuc b) = false
+eq_z (negsuc a) (pos b) = false
+eq_z (negsuc a) (negsuc b) = eqb a b

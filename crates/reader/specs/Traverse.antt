@@ -5,29 +5,29 @@ use Rattle.records.specs.declared.Head.{Head}
 use Rattle.records.specs.declared.Station.{Station}
 use Rattle.records.specs.declared.Kind.TheVariants as kind
 use Rattle.records.specs.Refusals.{refusal}
-use Rattle.records.specs.Groups.{at as numberAt, stationAt, stationCount, putStation}
-use Rattle.records.specs.Limits.{countOk, mostPoints}
+use Rattle.records.specs.Groups.{at as number_at, station_at, station_count, put_station}
+use Rattle.records.specs.Limits.{count_ok, most_points}
 use Rattle.records.specs.Shapes.{Traverse, traverse}
 use Rattle.reader.specs.Text.{more}
-use Rattle.reader.specs.Lines.{Outcome, read, refused, found, Leaves, leaves, LinesRead, linesAt, namesAt, holds}
+use Rattle.reader.specs.Lines.{Outcome, read, refused, found, Leaves, leaves, LinesRead, lines_at, names_at, holds}
 use Rattle.reader.specs.declared.Lines.{Lines}
 use Rattle.reader.specs.declared.Lines.TheVariants.{Read, Refused}
 use Rattle.reader.specs.declared.traverse.Part.{Part}
 use Rattle.reader.specs.declared.traverse.Part.TheVariants.{Names, Values, Columns, Points}
 use Rattle.reader.specs.declared.traverse.Known.{Known}
 use Rattle.reader.specs.declared.traverse.LineStep.{LineStep}
-use Rattle.reader.specs.declared.traverse.LineStep.TheVariants as line_step
+use Rattle.reader.specs.declared.traverse.LineStep.TheVariants as step
 use Rattle.reader.specs.declared.traverse.TraverseRead.{TraverseRead}
 use Rattle.reader.specs.declared.traverse.TraverseStep.{TraverseStep}
 use Rattle.reader.specs.declared.traverse.Whole.TheVariants as whole
 use Rattle.reader.specs.declared.traverse.Progress.TheVariants as progress
 
 -- the names lines `latitude friction initial` and `distance depth`, with their line feeds
-abbrev pub headNames : List ℕ
-headNames = 108 ∷ 97 ∷ 116 ∷ 105 ∷ 116 ∷ 117 ∷ 100 ∷ 101 ∷ 32 ∷ 102 ∷ 114 ∷ 105 ∷ 99 ∷ 116 ∷ 105 ∷ 111 ∷ 110 ∷ 32 ∷ 105 ∷ 110 ∷ 105 ∷ 116 ∷ 105 ∷ 97 ∷ 108 ∷ 10 ∷ []
+abbrev pub head_names : List ℕ
+head_names = 108 ∷ 97 ∷ 116 ∷ 105 ∷ 116 ∷ 117 ∷ 100 ∷ 101 ∷ 32 ∷ 102 ∷ 114 ∷ 105 ∷ 99 ∷ 116 ∷ 105 ∷ 111 ∷ 110 ∷ 32 ∷ 105 ∷ 110 ∷ 105 ∷ 116 ∷ 105 ∷ 97 ∷ 108 ∷ 10 ∷ []
 
-abbrev pub pointNames : List ℕ
-pointNames = 100 ∷ 105 ∷ 115 ∷ 116 ∷ 97 ∷ 110 ∷ 99 ∷ 101 ∷ 32 ∷ 100 ∷ 101 ∷ 112 ∷ 116 ∷ 104 ∷ 10 ∷ []
+abbrev pub point_names : List ℕ
+point_names = 100 ∷ 105 ∷ 115 ∷ 116 ∷ 97 ∷ 110 ∷ 99 ∷ 101 ∷ 32 ∷ 100 ∷ 101 ∷ 112 ∷ 116 ∷ 104 ∷ 10 ∷ []
 
 -- ---- what is known
 
@@ -40,144 +40,144 @@ abbrev pub held : Known → List ℤ → Held
 held k l = record { known = k; points = l }
 
 -- before the first line: nothing is known, and the first names line comes next
-abbrev pub noHead : Head
-noHead = record { latitude = pos 0; friction = pos 0; initial = pos 0 }
+abbrev pub no_head : Head
+no_head = record { latitude = pos 0; friction = pos 0; initial = pos 0 }
 
 unfoldable pub start : Known
-start = record { part = Names; head = noHead; count = 0 }
+start = record { part = Names; head = no_head; count = 0 }
 
 -- with another part next
 abbrev pub expecting : Part → Known → Known
 expecting p k = record { part = p; head = k.head; count = k.count }
 
 -- after the value line
-unfoldable pub withValues : List ℤ → Known → Known
-withValues v k = record { part = Columns; head = record { latitude = numberAt v 0; friction = numberAt v 1; initial = numberAt v 2 }; count = k.count }
+unfoldable pub with_values : List ℤ → Known → Known
+with_values v k = record { part = Columns; head = record { latitude = number_at v 0; friction = number_at v 1; initial = number_at v 2 }; count = k.count }
 
 -- after a point: it is stored where the lent numbers have room for it, otherwise it is only counted
-unfoldable pub storedAt : List ℤ → ℕ → Station → List ℤ
-storedAt l i x = cond (ltb i (stationCount l)) (putStation l i x) l
+unfoldable pub stored_at : List ℤ → ℕ → Station → List ℤ
+stored_at l i x = cond (ltb i (station_count l)) (put_station l i x) l
 
-abbrev pub oneMore : Known → Known
-oneMore k = record { part = Points; head = k.head; count = more k.count }
+abbrev pub one_more : Known → Known
+one_more k = record { part = Points; head = k.head; count = more k.count }
 
-unfoldable pub withPoint : List ℤ → Held → Held
-withPoint v h = held (oneMore h.known) (storedAt h.points h.known.count (stationAt v 0))
+unfoldable pub with_point : List ℤ → Held → Held
+with_point v h = held (one_more h.known) (stored_at h.points h.known.count (station_at v 0))
 
 -- ---- a line
 
 -- the line at a place, by what comes next: the names, three values, the names of the points, a point's two values
-abbrev pub valueLine : List ℕ → ℕ → ℕ → ℕ → LinesRead
-valueLine s width at line = linesAt s width 0 1 0 at line []
+abbrev pub value_line : List ℕ → ℕ → ℕ → ℕ → LinesRead
+value_line s width at line = lines_at s width 0 1 0 at line []
 
-abbrev pub lineBy : List ℕ → Part → Held → ℕ → ℕ → Outcome Held
-lineBy s Names h at line = found (namesAt s headNames at line) (held (expecting Values h.known) h.points)
-lineBy s Values h at line = found (valueLine s 3 at line).answer (held (withValues (valueLine s 3 at line).kept h.known) h.points)
-lineBy s Columns h at line = found (namesAt s pointNames at line) (held (expecting Points h.known) h.points)
-lineBy s Points h at line = found (valueLine s 2 at line).answer (withPoint (valueLine s 2 at line).kept h)
+abbrev pub line_by : List ℕ → Part → Held → ℕ → ℕ → Outcome Held
+line_by s Names h at line = found (names_at s head_names at line) (held (expecting Values h.known) h.points)
+line_by s Values h at line = found (value_line s 3 at line).answer (held (with_values (value_line s 3 at line).kept h.known) h.points)
+line_by s Columns h at line = found (names_at s point_names at line) (held (expecting Points h.known) h.points)
+line_by s Points h at line = found (value_line s 2 at line).answer (with_point (value_line s 2 at line).kept h)
 
-unfoldable pub lineAt : List ℕ → Held → ℕ → ℕ → Outcome Held
-lineAt s h at line = lineBy s h.known.part h at line
+unfoldable pub line_at : List ℕ → Held → ℕ → ℕ → Outcome Held
+line_at s h at line = line_by s h.known.part h at line
 
 -- in the code's terms: what the line makes of what is known
-abbrev pub lineStep : Lines → Known → LineStep
-lineStep (Read c) k = line_step.Read c k
-lineStep (Refused r) k = line_step.Refused r
+abbrev pub line_step : Lines → Known → LineStep
+line_step (Read c) k = step.Read c k
+line_step (Refused r) k = step.Refused r
 
 -- what the call leaves: a refused line stores nothing
-unfoldable pub lineLeft : Held → Outcome Held → Leaves LineStep
-lineLeft h (read x at line) = leaves (line_step.Read (record { at = at; line = line }) x.known) x.points
-lineLeft h (refused r) = leaves (line_step.Refused r) h.points
+unfoldable pub line_left : Held → Outcome Held → Leaves LineStep
+line_left h (read x at line) = leaves (step.Read (record { at = at; line = line }) x.known) x.points
+line_left h (refused r) = leaves (step.Refused r) h.points
 
 -- ---- the end of the text
 
 -- once a point line was read: 3 if there was no point, 5 if there were too few or too many, 8 if they have no place in so many lent numbers
-unfoldable pub countedBy : ℕ → Known → ℕ → ℕ → Outcome Known
-countedBy room k at line =
+unfoldable pub counted_by : ℕ → Known → ℕ → ℕ → Outcome Known
+counted_by room k at line =
     cond (eqb k.count 0)
     (refused (refusal kind.Ended line))
-    (cond (countOk mostPoints k.count)
+    (cond (count_ok most_points k.count)
     (cond (ltb room k.count) (refused (refusal kind.Lent 0)) (read k at line))
     (refused (refusal kind.Points k.count)))
 
 -- 1 if the text is empty, the traverse once its points were read, else 3 with the last line
-abbrev pub endBy : Part → ℕ → Known → ℕ → ℕ → Outcome Known
-endBy Names room k at line = refused (refusal kind.Names (more line))
-endBy Values room k at line = refused (refusal kind.Ended line)
-endBy Columns room k at line = refused (refusal kind.Ended line)
-endBy Points room k at line = countedBy room k at line
+abbrev pub end_by : Part → ℕ → Known → ℕ → ℕ → Outcome Known
+end_by Names room k at line = refused (refusal kind.Names (more line))
+end_by Values room k at line = refused (refusal kind.Ended line)
+end_by Columns room k at line = refused (refusal kind.Ended line)
+end_by Points room k at line = counted_by room k at line
 
-unfoldable pub endAt : ℕ → Known → ℕ → ℕ → Outcome Known
-endAt room k at line = endBy k.part room k at line
+unfoldable pub end_at : ℕ → Known → ℕ → ℕ → Outcome Known
+end_at room k at line = end_by k.part room k at line
 
-abbrev pub endOf : Held → ℕ → ℕ → Leaves (Outcome Known)
-endOf h at line = leaves (endAt (stationCount h.points) h.known at line) h.points
+abbrev pub end_of : Held → ℕ → ℕ → Leaves (Outcome Known)
+end_of h at line = leaves (end_at (station_count h.points) h.known at line) h.points
 
 -- ---- the whole text
 
 -- after a line: the refusal, with the numbers as they are, or what follows
-abbrev pub onRest : Held → Outcome Held → (Held → ℕ → ℕ → Leaves (Outcome Known)) → Leaves (Outcome Known)
-onRest h (read x at line) next = next x at line
-onRest h (refused r) next = leaves (refused r) h.points
+abbrev pub on_rest : Held → Outcome Held → (Held → ℕ → ℕ → Leaves (Outcome Known)) → Leaves (Outcome Known)
+on_rest h (read x at line) next = next x at line
+on_rest h (refused r) next = leaves (refused r) h.points
 
 -- what is left of the text, line by line from a place on; n lines are enough where no more bytes are left
-unfoldable pub restBy : List ℕ → ℕ → Held → ℕ → ℕ → Leaves (Outcome Known)
-restBy s zero h at line = endOf h at line
-restBy s (suc n) h at line = cond (ltb at (length s)) (onRest h (lineAt s h at line) (restBy s n)) (endOf h at line)
+unfoldable pub rest_by : List ℕ → ℕ → Held → ℕ → ℕ → Leaves (Outcome Known)
+rest_by s zero h at line = end_of h at line
+rest_by s (suc n) h at line = cond (ltb at (length s)) (on_rest h (line_at s h at line) (rest_by s n)) (end_of h at line)
 
-unfoldable pub restAt : List ℕ → Held → ℕ → ℕ → Leaves (Outcome Known)
-restAt s h at line = restBy s (length s) h at line
+unfoldable pub rest_at : List ℕ → Held → ℕ → ℕ → Leaves (Outcome Known)
+rest_at s h at line = rest_by s (length s) h at line
 
 -- the answer for each case: what was read, or the refusal beside all zero
-unfoldable pub traverseRead : Outcome Known → TraverseRead
-traverseRead (read k at line) = record { answer = whole.Read; head = k.head; count = k.count }
-traverseRead (refused r) = record { answer = whole.Refused r; head = noHead; count = 0 }
+unfoldable pub traverse_read : Outcome Known → TraverseRead
+traverse_read (read k at line) = record { answer = whole.Read; head = k.head; count = k.count }
+traverse_read (refused r) = record { answer = whole.Refused r; head = no_head; count = 0 }
 
 -- what a call leaves that reads the rest, and what one leaves that reads the whole text
-abbrev pub readLeft : Leaves (Outcome Known) → Leaves TraverseRead
-readLeft x = leaves (traverseRead x.answer) x.numbers
+abbrev pub read_left : Leaves (Outcome Known) → Leaves TraverseRead
+read_left x = leaves (traverse_read x.answer) x.numbers
 
-unfoldable pub traverseLeft : List ℕ → List ℤ → Leaves TraverseRead
-traverseLeft s lent = readLeft (restAt s (held start lent) 0 0)
+unfoldable pub traverse_left : List ℕ → List ℤ → Leaves TraverseRead
+traverse_left s lent = read_left (rest_at s (held start lent) 0 0)
 
 -- the traverse that the text alone gives: its head and the numbers of its points, of which 65 have a place
-abbrev pub noPoints : List ℤ
-noPoints = replicate 130 (pos 0)
+abbrev pub no_points : List ℤ
+no_points = replicate 130 (pos 0)
 
-abbrev pub traverseBy : Outcome Known → List ℤ → Outcome Traverse
-traverseBy (read k at line) points = read (traverse k.head (take (2 * k.count) points)) at line
-traverseBy (refused r) points = refused r
+abbrev pub traverse_by : Outcome Known → List ℤ → Outcome Traverse
+traverse_by (read k at line) points = read (traverse k.head (take (2 * k.count) points)) at line
+traverse_by (refused r) points = refused r
 
-unfoldable pub traverseOf : List ℕ → Outcome Traverse
-traverseOf s = traverseBy (restAt s (held start noPoints) 0 0).answer (restAt s (held start noPoints) 0 0).numbers
+unfoldable pub traverse_of : List ℕ → Outcome Traverse
+traverse_of s = traverse_by (rest_at s (held start no_points) 0 0).answer (rest_at s (held start no_points) 0 0).numbers
 
 -- ---- windows: w is a part of the text, and `last` says whether the text ends with it
 
 -- the step's answer where the text has ended or a line is refused
-unfoldable pub endStep : Outcome Known → TraverseStep
-endStep (read k at line) = record { answer = progress.Read; known = k }
-endStep (refused r) = record { answer = progress.Refused r; known = start }
+unfoldable pub end_step : Outcome Known → TraverseStep
+end_step (read k at line) = record { answer = progress.Read; known = k }
+end_step (refused r) = record { answer = progress.Refused r; known = start }
 
-abbrev pub endLeft : Leaves (Outcome Known) → Leaves TraverseStep
-endLeft x = leaves (endStep x.answer) x.numbers
+abbrev pub end_left : Leaves (Outcome Known) → Leaves TraverseStep
+end_left x = leaves (end_step x.answer) x.numbers
 
 -- after a line: the refusal, or what follows
-abbrev pub onStep : Held → Outcome Held → (Held → ℕ → ℕ → Leaves TraverseStep) → Leaves TraverseStep
-onStep h (read x at line) next = next x at line
-onStep h (refused r) next = leaves (endStep (refused r)) h.points
+abbrev pub on_step : Held → Outcome Held → (Held → ℕ → ℕ → Leaves TraverseStep) → Leaves TraverseStep
+on_step h (read x at line) next = next x at line
+on_step h (refused r) next = leaves (end_step (refused r)) h.points
 
 -- where the next line may not be whole in the window: what is known, and the cursor
-abbrev pub moreStep : Held → ℕ → ℕ → Leaves TraverseStep
-moreStep h at line = leaves (record { answer = progress.More (record { at = at; line = line }); known = h.known }) h.points
+abbrev pub more_step : Held → ℕ → ℕ → Leaves TraverseStep
+more_step h at line = leaves (record { answer = progress.More (record { at = at; line = line }); known = h.known }) h.points
 
 -- the lines that the window holds, from a place on, each where 33 bytes are left, which three values can take; n of them are enough where no
 -- more bytes are left
-unfoldable pub stepAt : List ℕ → Bool → ℕ → Held → ℕ → ℕ → Leaves TraverseStep
-stepAt w last zero h at line = cond last (endLeft (endOf h at line)) (moreStep h at line)
-stepAt w last (suc n) h at line =
+unfoldable pub step_at : List ℕ → Bool → ℕ → Held → ℕ → ℕ → Leaves TraverseStep
+step_at w last zero h at line = cond last (end_left (end_of h at line)) (more_step h at line)
+step_at w last (suc n) h at line =
     cond (holds (length w) last at 33)
-    (cond (ltb at (length w)) (onStep h (lineAt w h at line) (stepAt w last n)) (endLeft (endOf h at line)))
-    (moreStep h at line)
+    (cond (ltb at (length w)) (on_step h (line_at w h at line) (step_at w last n)) (end_left (end_of h at line)))
+    (more_step h at line)
 
-unfoldable pub traverseStep : List ℕ → Bool → Held → ℕ → ℕ → Leaves TraverseStep
-traverseStep w last h at line = stepAt w last (length w) h at line
+unfoldable pub traverse_step : List ℕ → Bool → Held → ℕ → ℕ → Leaves TraverseStep
+traverse_step w last h at line = step_at w last (length w) h at line

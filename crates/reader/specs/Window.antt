@@ -4,8 +4,8 @@ use Rattle.std.specs.Prelude.{◌≡◌, Bool, true, false, cond, List, [], ◌�
 use Rattle.records.specs.Shapes.{Record}
 use Rattle.reader.specs.Text.{byte}
 use Rattle.reader.specs.Lines.{Outcome, read, refused, Leaves, leaves, holds}
-use Rattle.reader.specs.Storm.{Stop, ended, stopped, paused, unread, Storm, none_more, stormStart, stormBy, stormRest, stormOf, startStep, Seen, needs-more, seen, recordStep}
-use Rattle.reader.specs.Traverse.{Held, held, start, noHead, restAt, readLeft, traverseLeft, traverseStep}
+use Rattle.reader.specs.Storm.{Stop, ended, stopped, paused, unread, Storm, none_more, storm_start, storm_by, storm_rest, storm_of, start_step, Seen, needs-more, seen, record_step}
+use Rattle.reader.specs.Traverse.{Held, held, start, no_head, rest_at, read_left, traverse_left, traverse_step}
 use Rattle.reader.specs.declared.Lines.TheVariants.{Read, Refused}
 use Rattle.reader.specs.declared.storm.StartStep.{StartStep}
 use Rattle.reader.specs.declared.storm.StartStep.TheVariants as start-step
@@ -28,13 +28,13 @@ moved o (read x at line) = read x (o + at) line
 moved o (refused r) = refused r
 
 -- what a step on a traverse text comes to: what it leaves, or what the rest of the text from where it stopped leaves
-abbrev pub carriedBy : List ℕ → ℕ → Progress → Known → List ℤ → Leaves TraverseRead
-carriedBy s o progress.Read k l = leaves (record { answer = whole.Read; head = k.head; count = k.count }) l
-carriedBy s o (progress.More c) k l = readLeft (restAt s (held k l) (o + c.at) c.line)
-carriedBy s o (progress.Refused r) k l = leaves (record { answer = whole.Refused r; head = noHead; count = 0 }) l
+abbrev pub carried_by : List ℕ → ℕ → Progress → Known → List ℤ → Leaves TraverseRead
+carried_by s o progress.Read k l = leaves (record { answer = whole.Read; head = k.head; count = k.count }) l
+carried_by s o (progress.More c) k l = read_left (rest_at s (held k l) (o + c.at) c.line)
+carried_by s o (progress.Refused r) k l = leaves (record { answer = whole.Refused r; head = no_head; count = 0 }) l
 
 abbrev pub carried : List ℕ → ℕ → Leaves TraverseStep → Leaves TraverseRead
-carried s o x = carriedBy s o x.answer.answer x.answer.known x.numbers
+carried s o x = carried_by s o x.answer.answer x.answer.known x.numbers
 
 -- ---- any windows, one after another
 
@@ -45,14 +45,14 @@ pub record Cut : Type 0 where
   pub size : ℕ
   pub shown : Bool
 
-abbrev pub fromOf : Cut → ℕ → ℕ
-fromOf c at = at - c.back
+abbrev pub from_of : Cut → ℕ → ℕ
+from_of c at = at - c.back
 
-abbrev pub windowOf : List ℕ → Cut → ℕ → List ℕ
-windowOf s c at = take c.size (drop (fromOf c at) s)
+abbrev pub window_of : List ℕ → Cut → ℕ → List ℕ
+window_of s c at = take c.size (drop (from_of c at) s)
 
-abbrev pub lastOf : List ℕ → Cut → ℕ → Bool
-lastOf s c at = cond c.shown (leb (length s) (fromOf c at + c.size)) false
+abbrev pub last_of : List ℕ → Cut → ℕ → Bool
+last_of s c at = cond c.shown (leb (length s) (from_of c at + c.size)) false
 
 -- ---- a traverse text
 
@@ -62,96 +62,96 @@ pub data TraverseRun : Type 0 where
   going : Held → ℕ → ℕ → TraverseRun
 
 -- after a step: what it leaves, or on with the next window
-abbrev pub runOn : ℕ → Progress → Known → List ℤ → (Held → ℕ → ℕ → TraverseRun) → TraverseRun
-runOn o progress.Read k l next = done (leaves (record { answer = whole.Read; head = k.head; count = k.count }) l)
-runOn o (progress.More c) k l next = next (held k l) (o + c.at) c.line
-runOn o (progress.Refused r) k l next = done (leaves (record { answer = whole.Refused r; head = noHead; count = 0 }) l)
+abbrev pub run_on : ℕ → Progress → Known → List ℤ → (Held → ℕ → ℕ → TraverseRun) → TraverseRun
+run_on o progress.Read k l next = done (leaves (record { answer = whole.Read; head = k.head; count = k.count }) l)
+run_on o (progress.More c) k l next = next (held k l) (o + c.at) c.line
+run_on o (progress.Refused r) k l next = done (leaves (record { answer = whole.Refused r; head = no_head; count = 0 }) l)
 
-abbrev pub stepIn : List ℕ → Cut → Held → ℕ → ℕ → Leaves TraverseStep
-stepIn s c h at line = traverseStep (windowOf s c at) (lastOf s c at) h (at - fromOf c at) line
+abbrev pub step_in : List ℕ → Cut → Held → ℕ → ℕ → Leaves TraverseStep
+step_in s c h at line = traverse_step (window_of s c at) (last_of s c at) h (at - from_of c at) line
 
-unfoldable pub traverseRun : List ℕ → List Cut → Held → ℕ → ℕ → TraverseRun
-traverseRun s [] h at line = going h at line
-traverseRun s (c ∷ cuts) h at line =
-    runOn (fromOf c at) (stepIn s c h at line).answer.answer (stepIn s c h at line).answer.known (stepIn s c h at line).numbers (traverseRun s cuts)
+unfoldable pub traverse_run : List ℕ → List Cut → Held → ℕ → ℕ → TraverseRun
+traverse_run s [] h at line = going h at line
+traverse_run s (c ∷ cuts) h at line =
+    run_on (from_of c at) (step_in s c h at line).answer.answer (step_in s c h at line).answer.known (step_in s c h at line).numbers (traverse_run s cuts)
 
 -- ---- a storm text
 
 -- the records by windows, from a place on
-abbrev pub stormOn : ℕ → ℕ → ℕ → Seen → (ℕ → ℕ → Storm) → Storm
-stormOn o at line needs-more next = next at line
-stormOn o at line (seen r) next = stormBy (moved o r) next
+abbrev pub storm_on : ℕ → ℕ → ℕ → Seen → (ℕ → ℕ → Storm) → Storm
+storm_on o at line needs-more next = next at line
+storm_on o at line (seen r) next = storm_by (moved o r) next
 
-unfoldable pub stormRun : List ℕ → ℕ → List Cut → ℕ → ℕ → Storm
-stormRun s n [] at line = none_more (paused at line)
-stormRun s n (c ∷ cuts) at line =
-    stormOn (fromOf c at) at line (recordStep (windowOf s c at) (lastOf s c at) n (at - fromOf c at) line) (stormRun s n cuts)
+unfoldable pub storm_run : List ℕ → ℕ → List Cut → ℕ → ℕ → Storm
+storm_run s n [] at line = none_more (paused at line)
+storm_run s n (c ∷ cuts) at line =
+    storm_on (from_of c at) at line (record_step (window_of s c at) (last_of s c at) n (at - from_of c at) line) (storm_run s n cuts)
 
 -- the whole text by windows: its names line first
-abbrev pub startOn : StartStep → Storm → (ℕ → ℕ → Storm) → Storm
-startOn start-step.More again next = again
-startOn (start-step.Answer (Read c)) again next = next c.at c.line
-startOn (start-step.Answer (Refused r)) again next = none_more (stopped r)
+abbrev pub start_on : StartStep → Storm → (ℕ → ℕ → Storm) → Storm
+start_on start-step.More again next = again
+start_on (start-step.Answer (Read c)) again next = next c.at c.line
+start_on (start-step.Answer (Refused r)) again next = none_more (stopped r)
 
-unfoldable pub stormTextRun : List ℕ → ℕ → List Cut → Storm
-stormTextRun s n [] = none_more unread
-stormTextRun s n (c ∷ cuts) = startOn (startStep (windowOf s c 0) (lastOf s c 0)) (stormTextRun s n cuts) (stormRun s n cuts)
+unfoldable pub storm_text_run : List ℕ → ℕ → List Cut → Storm
+storm_text_run s n [] = none_more unread
+storm_text_run s n (c ∷ cuts) = start_on (start_step (window_of s c 0) (last_of s c 0)) (storm_text_run s n cuts) (storm_run s n cuts)
 
 -- ---- what reading by windows comes to: its answer, and where the windows end before it, the rest of the text read whole
 
-abbrev pub traverseDone : List ℕ → TraverseRun → Leaves TraverseRead
-traverseDone s (done x) = x
-traverseDone s (going h at line) = readLeft (restAt s h at line)
+abbrev pub traverse_done : List ℕ → TraverseRun → Leaves TraverseRead
+traverse_done s (done x) = x
+traverse_done s (going h at line) = read_left (rest_at s h at line)
 
-abbrev pub stormDoneBy : List ℕ → ℕ → List Record → Stop → Storm
-stormDoneBy s n records ended = record { records = records; stop = ended }
-stormDoneBy s n records (stopped r) = record { records = records; stop = stopped r }
-stormDoneBy s n records unread = record { records = records ++ (stormOf s n).records; stop = (stormOf s n).stop }
-stormDoneBy s n records (paused at line) = record { records = records ++ (stormRest s n at line).records; stop = (stormRest s n at line).stop }
+abbrev pub storm_done_by : List ℕ → ℕ → List Record → Stop → Storm
+storm_done_by s n records ended = record { records = records; stop = ended }
+storm_done_by s n records (stopped r) = record { records = records; stop = stopped r }
+storm_done_by s n records unread = record { records = records ++ (storm_of s n).records; stop = (storm_of s n).stop }
+storm_done_by s n records (paused at line) = record { records = records ++ (storm_rest s n at line).records; stop = (storm_rest s n at line).stop }
 
-abbrev pub stormDone : List ℕ → ℕ → Storm → Storm
-stormDone s n x = stormDoneBy s n x.records x.stop
+abbrev pub storm_done : List ℕ → ℕ → Storm → Storm
+storm_done s n x = storm_done_by s n x.records x.stop
 
 -- ---- the statements on one step, proved in proofs/Steps.antt: for every text and every window of it
 
 -- reading on from a step's answer is reading on from where the step began
 abbrev pub TraverseStepHolds : Type 0
 TraverseStepHolds =
-    (s w : List ℕ) (o : ℕ) (last : Bool) → Shows s w o last → (h : Held) (at line : ℕ) → carried s o (traverseStep w last h at line) ≡ readLeft (restAt s h (o + at) line)
+    (s w : List ℕ) (o : ℕ) (last : Bool) → Shows s w o last → (h : Held) (at line : ℕ) → carried s o (traverse_step w last h at line) ≡ read_left (rest_at s h (o + at) line)
 
 abbrev pub StartStepHolds : Type 0
-StartStepHolds = (s w : List ℕ) (last : Bool) → Shows s w 0 last → holds (length w) last 0 32 ≡ true → startStep w last ≡ start-step.Answer (stormStart s)
+StartStepHolds = (s w : List ℕ) (last : Bool) → Shows s w 0 last → holds (length w) last 0 32 ≡ true → start_step w last ≡ start-step.Answer (storm_start s)
 
 abbrev pub RecordStepHolds : Type 0
 RecordStepHolds =
     (s w : List ℕ) (o : ℕ) (last : Bool) (n at line : ℕ) → Shows s w o last → o + at ≤ length s
-    → stormOn o (o + at) line (recordStep w last n at line) (stormRest s n) ≡ stormRest s n (o + at) line
+    → storm_on o (o + at) line (record_step w last n at line) (storm_rest s n) ≡ storm_rest s n (o + at) line
 
 -- ---- the statements on windows one after another, proved in proofs/Windows.antt: for every text and all windows, whatever their sizes
 
 -- reading a traverse text by windows leaves what reading it whole leaves, whatever is lent
 abbrev pub TraverseByWindows : Type 0
-TraverseByWindows = (s : List ℕ) (cuts : List Cut) (lent : List ℤ) → traverseDone s (traverseRun s cuts (held start lent) 0 0) ≡ traverseLeft s lent
+TraverseByWindows = (s : List ℕ) (cuts : List Cut) (lent : List ℤ) → traverse_done s (traverse_run s cuts (held start lent) 0 0) ≡ traverse_left s lent
 
 -- and so does reading a storm text, and its records from any place of it on
 abbrev pub StormByWindows : Type 0
-StormByWindows = (s : List ℕ) (n : ℕ) (cuts : List Cut) (at line : ℕ) → at ≤ length s → stormDone s n (stormRun s n cuts at line) ≡ stormRest s n at line
+StormByWindows = (s : List ℕ) (n : ℕ) (cuts : List Cut) (at line : ℕ) → at ≤ length s → storm_done s n (storm_run s n cuts at line) ≡ storm_rest s n at line
 
 abbrev pub StormTextByWindows : Type 0
-StormTextByWindows = (s : List ℕ) (n : ℕ) (cuts : List Cut) → stormDone s n (stormTextRun s n cuts) ≡ stormOf s n
+StormTextByWindows = (s : List ℕ) (n : ℕ) (cuts : List Cut) → storm_done s n (storm_text_run s n cuts) ≡ storm_of s n
 
 -- how many of the windows show so many bytes from the place on, or the end and that it is the end; the others may be of any kind
-abbrev pub shownBy : ℕ → Cut → Bool
-shownBy need c = cond c.shown (leb (c.back + need) c.size) false
+abbrev pub shown_by : ℕ → Cut → Bool
+shown_by need c = cond c.shown (leb (c.back + need) c.size) false
 
 unfoldable pub enough : ℕ → List Cut → ℕ
 enough need [] = 0
-enough need (c ∷ cuts) = cond (shownBy need c) (suc (enough need cuts)) (enough need cuts)
+enough need (c ∷ cuts) = cond (shown_by need c) (suc (enough need cuts)) (enough need cuts)
 
 -- as many windows that show a line as the text has bytes, and one more, finish it
 abbrev pub TraverseFinishes : Type 0
-TraverseFinishes = (s : List ℕ) (cuts : List Cut) (lent : List ℤ) → length s < enough 33 cuts → traverseRun s cuts (held start lent) 0 0 ≡ done (traverseLeft s lent)
+TraverseFinishes = (s : List ℕ) (cuts : List Cut) (lent : List ℤ) → length s < enough 33 cuts → traverse_run s cuts (held start lent) 0 0 ≡ done (traverse_left s lent)
 
 -- and a storm where they show a record
 abbrev pub StormFinishes : Type 0
-StormFinishes = (s : List ℕ) (n : ℕ) (cuts : List Cut) (at line : ℕ) → at ≤ length s → length s < at + enough (n * 55) cuts → stormRun s n cuts at line ≡ stormRest s n at line
+StormFinishes = (s : List ℕ) (n : ℕ) (cuts : List Cut) (at line : ℕ) → at ≤ length s → length s < at + enough (n * 55) cuts → storm_run s n cuts at line ≡ storm_rest s n at line

@@ -9,8 +9,8 @@ mod traverse;
 
 ghost use Rattle.std.specs.Prelude.{cond, ◌&&◌, [], ◌≡◌, ◌+◌, ◌-◌, ◌*◌, ◌<◌, ◌≤◌, ◌^◌, eqb, length};
 ghost use Rattle.records.specs.Refusals.{refusal};
-ghost use Rattle.reader.specs.Text.{more as Text·more, byte, digitAt, goodOf, signedValue, startAt, closeOf};
-ghost use Rattle.reader.specs.Lines.{leaves, repeated as Lines·repeated, noneKept, keptLeft, linesAt, linesLeft, spells, namesAt, holds as Lines·holds};
+ghost use Rattle.reader.specs.Text.{more, byte, digit_at, good_of, signed_value, start_at, close_of};
+ghost use Rattle.reader.specs.Lines.{leaves, repeated, none_kept, kept_left, lines_at, lines_left, spells, names_at, holds};
 ghost use Rattle.reader.specs.declared.Lines.TheVariants as lines;
 
 use records::{Kind, Refusal};
@@ -43,7 +43,7 @@ struct Kept {
 
 // One more line or point, up to the greatest number there is.
 pub fn more(n: usize) -> usize
-    ensures { result ≡ Text·more n }
+    ensures { result ≡ more n }
 {
     if n < 18446744073709551615 { n + 1 } else { n }
 }
@@ -59,7 +59,7 @@ impl Cursor {
 
     // The digit here, and 10 where there is none.
     pub fn digit(self, s: &[u8]) -> u64
-        ensures { result ≡ digitAt s.now self.at }
+        ensures { result ≡ digit_at s.now self.at }
     {
         let b = self.byte(s);
         if b < 48 {
@@ -84,7 +84,7 @@ impl Cursor {
 
     // Past the minus here, if there is one.
     fn past_sign(self, s: &[u8]) -> Self
-        ensures { result ≡ record { at = startAt s.now self.at; line = self.line } }
+        ensures { result ≡ record { at = start_at s.now self.at; line = self.line } }
     {
         if self.byte(s) == 45 {
             self.past()
@@ -114,7 +114,7 @@ impl Cursor {
 
     // In the line that begins here.
     fn next_line(self) -> Self
-        ensures { result ≡ record { at = self.at; line = Text·more self.line } }
+        ensures { result ≡ record { at = self.at; line = more self.line } }
     {
         Cursor {
             at: self.at,
@@ -126,7 +126,7 @@ impl Cursor {
 // Whether so many digits, nine at most, with this byte first, are a value.
 fn good(negative: bool, count: u64, first: u8) -> bool
     requires { count ≤ 9 }
-    ensures { result ≡ goodOf negative count first }
+    ensures { result ≡ good_of negative count first }
 {
     if count == 0 {
         return false;
@@ -142,7 +142,7 @@ fn good(negative: bool, count: u64, first: u8) -> bool
 
 fn signed(negative: bool, size: u64) -> i64
     requires { size < 2 ^ 63 }
-    ensures { result ≡ signedValue negative size }
+    ensures { result ≡ signed_value negative size }
 {
     let x = size as i64;
     if negative { 0 - x } else { x }
@@ -150,14 +150,14 @@ fn signed(negative: bool, size: u64) -> i64
 
 // The byte that closes a value with n more behind it.
 fn close_of(n: usize) -> u8
-    ensures { result ≡ closeOf n }
+    ensures { result ≡ close_of n }
 {
     if n == 0 { 10 } else { 32 }
 }
 
 // Whether value k of line i is one that lines share with the first.
 fn repeated(shared: usize, i: usize, k: usize) -> bool
-    ensures { result ≡ Lines·repeated shared i k }
+    ensures { result ≡ repeated shared i k }
 {
     if i == 0 {
         return false;
@@ -168,7 +168,7 @@ fn repeated(shared: usize, i: usize, k: usize) -> bool
 impl Kept {
     // Before the first value.
     fn none() -> Self
-        ensures { result ≡ noneKept }
+        ensures { result ≡ none_kept }
     {
         Kept {
             next: 0,
@@ -179,7 +179,7 @@ impl Kept {
     // Keeps the value v of a line; one that is there again, as value k, is compared with the first line's.
     fn keep(self, out: &mut [i64], again: bool, k: usize, v: i64) -> Self
         requires { cond again k self.next < length out.old }
-        ensures { leaves result out.new ≡ keptLeft again k v self out.old }
+        ensures { leaves result out.new ≡ kept_left again k v self out.old }
     {
         let next = self.next;
         let same = self.same;
@@ -207,7 +207,7 @@ impl Cursor {
     // Whether a value ends here: so many digits, nine at most, with this byte first, are one, and the byte here closes it with n more behind it.
     fn closes(self, s: &[u8], negative: bool, count: u64, first: u8, n: usize) -> bool
         requires { count ≤ 9 }
-        ensures { result ≡ (goodOf negative count first && eqb (byte s.now self.at) (closeOf n)) }
+        ensures { result ≡ (good_of negative count first && eqb (byte s.now self.at) (close_of n)) }
     {
         if !good(negative, count, first) {
             return false;
@@ -219,7 +219,7 @@ impl Cursor {
     // from inside a number. The numbers go into `out` from its start, those that lines share once.
     fn lines(self, s: &[u8], width: usize, shared: usize, n: usize, out: &mut [i64]) -> Lines
         requires { (shared ≤ width) × (shared + n * (width - shared) ≤ length out.old) }
-        ensures { leaves result out.new ≡ linesLeft (linesAt s.now width shared n 0 self.at self.line []) out.old }
+        ensures { leaves result out.new ≡ lines_left (lines_at s.now width shared n 0 self.at self.line []) out.old }
     {
         let mut c = self;
         let mut kept = Kept::none();
@@ -263,7 +263,7 @@ impl Cursor {
 
     // Reads a line of names, which is given with its line feed.
     fn names(self, s: &[u8], want: &[u8]) -> Lines
-        ensures { result ≡ namesAt s.now want.now self.at self.line }
+        ensures { result ≡ names_at s.now want.now self.at self.line }
     {
         let line = more(self.line);
         if !self.spells(s, want) {
@@ -278,7 +278,7 @@ impl Cursor {
 
 // Whether a window of so many bytes has this many more from a place on, or is the text's last.
 fn holds(size: usize, last: bool, at: usize, need: usize) -> bool
-    ensures { result ≡ Lines·holds size last at need }
+    ensures { result ≡ holds size last at need }
 {
     if last {
         return true;

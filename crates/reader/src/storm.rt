@@ -2,7 +2,7 @@
 // caller lends: seconds, tide, and then wind, angle and deficit of each point.
 ghost use Rattle.std.specs.Prelude.{◌≡◌};
 ghost use Rattle.reader.specs.Lines.{leaves};
-ghost use Rattle.reader.specs.Storm.{stormStart, nextLeft, startStep, holdsRecord, recordStepLeft};
+ghost use Rattle.reader.specs.Storm.{storm_start, next_left, start_step, holds_record, record_step_left};
 ghost use Rattle.reader.specs.declared.storm.Next.TheVariants as next;
 ghost use Rattle.records.specs.Refusals.{refusal};
 
@@ -30,7 +30,7 @@ pub enum RecordStep {
 
 // The names line of a storm text.
 pub fn storm_start(s: &[u8]) -> Lines
-    ensures { result ≡ stormStart s.now }
+    ensures { result ≡ storm_start s.now }
 {
     Cursor { at: 0, line: 0 }.names(s, b"seconds tide wind angle deficit\n")
 }
@@ -44,7 +44,7 @@ fn refused_next(kind: Kind, place: usize) -> Next
 impl Cursor {
     // Reads the next record of a storm text, for a traverse of n points, into the first 2 + 3·n of the lent numbers. More of them stay as lent.
     pub fn next_record(self, s: &[u8], n: usize, numbers: &mut [i64]) -> Next
-        ensures { leaves result numbers.new ≡ nextLeft s.now n self.at self.line numbers.old }
+        ensures { leaves result numbers.new ≡ next_left s.now n self.at self.line numbers.old }
     {
         if !count_ok(POINTS_MOST, n) {
             return refused_next(Kind::Points, n);
@@ -74,7 +74,7 @@ pub enum StartStep {
 
 // The names line of a storm text, in a window; `last` says whether the text ends with it.
 pub fn storm_start_step(w: &[u8], last: bool) -> StartStep
-    ensures { result ≡ startStep w.now last }
+    ensures { result ≡ start_step w.now last }
 {
     if !holds(w.len(), last, 0, 32) {
         return StartStep::More;
@@ -84,7 +84,7 @@ pub fn storm_start_step(w: &[u8], last: bool) -> StartStep
 
 // Whether a window of so many bytes is enough for the next record.
 fn holds_record(size: usize, last: bool, n: usize, at: usize) -> bool
-    ensures { result ≡ holdsRecord size last n at }
+    ensures { result ≡ holds_record size last n at }
 {
     if !count_ok(POINTS_MOST, n) {
         return true;
@@ -95,7 +95,7 @@ fn holds_record(size: usize, last: bool, n: usize, at: usize) -> bool
 impl Cursor {
     // Reads the next record in a window, or answers that more of the text is needed and leaves the numbers as lent.
     pub fn record_step(self, w: &[u8], last: bool, n: usize, numbers: &mut [i64]) -> RecordStep
-        ensures { leaves result numbers.new ≡ recordStepLeft w.now last n self.at self.line numbers.old }
+        ensures { leaves result numbers.new ≡ record_step_left w.now last n self.at self.line numbers.old }
     {
         if !holds_record(w.len(), last, n, self.at) {
             return RecordStep::More;

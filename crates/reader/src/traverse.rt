@@ -3,7 +3,7 @@
 ghost use Rattle.std.specs.Prelude.{◌≡◌};
 ghost use Rattle.records.specs.Refusals.{refusal};
 ghost use Rattle.reader.specs.Lines.{refused, leaves};
-ghost use Rattle.reader.specs.Traverse.{noHead, start as Traverse·start, held, expecting as Traverse·expecting, withValues, storedAt, oneMore, valueLine, lineBy, lineAt, lineStep, lineLeft, countedBy, endAt, endStep, traverseStep, traverseLeft};
+ghost use Rattle.reader.specs.Traverse.{no_head, start, held, expecting, with_values, stored_at, one_more, value_line, line_by, line_at, line_step, line_left, counted_by, end_at, end_step, traverse_step, traverse_left};
 ghost use Rattle.reader.specs.declared.traverse.Part.TheVariants as part;
 
 use crate::{Cursor, Lines, holds, more};
@@ -65,7 +65,7 @@ enum LineStep {
 }
 
 fn no_head() -> Head
-    ensures { result ≡ noHead }
+    ensures { result ≡ no_head }
 {
     Head {
         latitude: 0,
@@ -76,7 +76,7 @@ fn no_head() -> Head
 
 // Stores point i where the lent numbers have room for it.
 fn store_point(points: &mut [i64], i: usize, x: Station)
-    ensures { points.new ≡ storedAt points.old i x }
+    ensures { points.new ≡ stored_at points.old i x }
 {
     if i >= whole_groups(Station::NUMBERS, points.len()) {
         return;
@@ -86,7 +86,7 @@ fn store_point(points: &mut [i64], i: usize, x: Station)
 
 // A line after which this is known, where it was read.
 fn line_step(answer: Lines, known: Known) -> LineStep
-    ensures { result ≡ lineStep answer known }
+    ensures { result ≡ line_step answer known }
 {
     match answer {
         Lines::Read(c) => LineStep::Read(c, known),
@@ -97,7 +97,7 @@ fn line_step(answer: Lines, known: Known) -> LineStep
 impl Known {
     // Before the first line.
     pub fn start() -> Self
-        ensures { result ≡ Traverse·start }
+        ensures { result ≡ start }
     {
         Known {
             part: Part::Names,
@@ -108,7 +108,7 @@ impl Known {
 
     // With another part next.
     fn expecting(self, part: Part) -> Self
-        ensures { result ≡ Traverse·expecting part self }
+        ensures { result ≡ expecting part self }
     {
         let head = self.head;
         Known {
@@ -120,7 +120,7 @@ impl Known {
 
     // Reads the value line.
     fn values_line(self, c: Cursor, s: &[u8]) -> LineStep
-        ensures { result ≡ lineStep (valueLine s.now 3 c.at c.line).answer (withValues (valueLine s.now 3 c.at c.line).kept self) }
+        ensures { result ≡ line_step (value_line s.now 3 c.at c.line).answer (with_values (value_line s.now 3 c.at c.line).kept self) }
     {
         let mut row = [0i64; 3];
         let answer = c.lines(s, 3, 0, 1, &mut row);
@@ -139,7 +139,7 @@ impl Known {
 
     // Reads a point's line, and stores the point.
     fn point_line(self, c: Cursor, s: &[u8], points: &mut [i64]) -> LineStep
-        ensures { leaves result points.new ≡ lineLeft (held self points.old) (lineBy s.now part.Points (held self points.old) c.at c.line) }
+        ensures { leaves result points.new ≡ line_left (held self points.old) (line_by s.now part.Points (held self points.old) c.at c.line) }
     {
         let mut row = [0i64; 2];
         match c.lines(s, Station::NUMBERS, 0, 1, &mut row) {
@@ -153,7 +153,7 @@ impl Known {
 
     // With one point more.
     fn one_more(self) -> Self
-        ensures { result ≡ oneMore self }
+        ensures { result ≡ one_more self }
     {
         let head = self.head;
         Known {
@@ -165,7 +165,7 @@ impl Known {
 
     // Reads one line, by what comes next.
     fn line(self, c: Cursor, s: &[u8], points: &mut [i64]) -> LineStep
-        ensures { leaves result points.new ≡ lineLeft (held self points.old) (lineAt s.now (held self points.old) c.at c.line) }
+        ensures { leaves result points.new ≡ line_left (held self points.old) (line_at s.now (held self points.old) c.at c.line) }
     {
         let part = self.part;
         match part {
@@ -184,7 +184,7 @@ impl Known {
 
     // What the end of the text makes of the points: room is how many have a place.
     fn counted(self, c: Cursor, room: usize) -> TraverseStep
-        ensures { result ≡ endStep (countedBy room self c.at c.line) }
+        ensures { result ≡ end_step (counted_by room self c.at c.line) }
     {
         let count = self.count;
         if count == 0 {
@@ -204,7 +204,7 @@ impl Known {
 
     // What the end of the text makes of what is known.
     fn end(self, c: Cursor, room: usize) -> TraverseStep
-        ensures { result ≡ endStep (endAt room self c.at c.line) }
+        ensures { result ≡ end_step (end_at room self c.at c.line) }
     {
         let part = self.part;
         match part {
@@ -217,7 +217,7 @@ impl Known {
 
     // Reads the lines that a window holds whole, from a cursor on, and stores their points; `last` says whether the text ends with it.
     pub fn step(self, from: Cursor, w: &[u8], last: bool, points: &mut [i64]) -> TraverseStep
-        ensures { leaves result points.new ≡ traverseStep w.now last (held self points.old) from.at from.line }
+        ensures { leaves result points.new ≡ traverse_step w.now last (held self points.old) from.at from.line }
     {
         let mut k = self;
         let mut c = from;
@@ -246,7 +246,7 @@ impl Known {
 }
 
 fn refused_step(kind: Kind, place: usize) -> TraverseStep
-    ensures { result ≡ endStep (refused (refusal kind place)) }
+    ensures { result ≡ end_step (refused (refusal kind place)) }
 {
     TraverseStep {
         answer: Progress::Refused(Refusal { kind, place }),
@@ -256,7 +256,7 @@ fn refused_step(kind: Kind, place: usize) -> TraverseStep
 
 // Reads a traverse text that is held whole, and stores its points.
 pub fn read_traverse(s: &[u8], points: &mut [i64]) -> TraverseRead
-    ensures { leaves result points.new ≡ traverseLeft s.now points.old }
+    ensures { leaves result points.new ≡ traverse_left s.now points.old }
 {
     let step = Known::start().step(Cursor { at: 0, line: 0 }, s, true, points);
     let answer = step.answer;

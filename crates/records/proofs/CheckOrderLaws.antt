@@ -11,7 +11,7 @@ use Rattle.records.specs.declared.Check.TheVariants.{Pass, Fail}
 use Rattle.records.specs.declared.Kind.{Kind}
 use Rattle.records.specs.declared.Refusal.{Refusal}
 use Rattle.records.specs.Refusals.{refusal}
-use Rattle.records.specs.CheckOrder.{need, ◌then◌, firstBad, each, firstOf, AllPass, FirstFails}
+use Rattle.records.specs.CheckOrder.{need, ◌then◌, first_bad, each, first_of, AllPass, FirstFails}
 use Rattle.records.proofs.FirstBad.{none-bad, all-ok}
 
 never : (refusal : Refusal) → Fail refusal ≡ Pass → ⊥
@@ -30,10 +30,10 @@ then-right Pass b e = e
 then-right (Fail refusal) b e = absurd (never refusal e)
 
 pub each-passed : (kind : Kind) (ok : ℕ → Bool) (n : ℕ) → each kind ok n ≡ Pass → (i : ℕ) → i < n → ok i ≡ true
-each-passed kind ok n e i h = none-bad ok n 0 (eqb-true _ 0 (need-passed _ (refusal kind (firstBad ok n 0)) e)) i (omega arith) (omega arith)
+each-passed kind ok n e i h = none-bad ok n 0 (eqb-true _ 0 (need-passed _ (refusal kind (first_bad ok n 0)) e)) i (omega arith) (omega arith)
 
 -- where each of n places is as it should be, there is no bad one
-pub none_first : (ok : ℕ → Bool) (n : ℕ) → ((i : ℕ) → i < n → ok i ≡ true) → firstBad ok n 0 ≡ 0
+pub none_first : (ok : ℕ → Bool) (n : ℕ) → ((i : ℕ) → i < n → ok i ≡ true) → first_bad ok n 0 ≡ 0
 none_first ok n f = all-ok ok n 0 (λ j h l. f j (omega arith))
 
 pub each-pass : (kind : Kind) (ok : ℕ → Bool) (n : ℕ) → ((i : ℕ) → i < n → ok i ≡ true) → each kind ok n ≡ Pass
@@ -47,34 +47,34 @@ then-pass (Fail refusal) = refl
 -- ---- a list of checks
 
 -- where the list passes, each of it does
-pub first-passed : (l : List Check) → firstOf l ≡ Pass → AllPass l
-unfolding firstOf AllPass
+pub first-passed : (l : List Check) → first_of l ≡ Pass → AllPass l
+unfolding first_of AllPass
 first-passed [] e = tt
-first-passed (c ∷ l) e = (then-left c (firstOf l) e, first-passed l (then-right c (firstOf l) e))
+first-passed (c ∷ l) e = (then-left c (first_of l) e, first-passed l (then-right c (first_of l) e))
 
 -- and where each of it does, the list passes
-pub first-pass : (l : List Check) → AllPass l → firstOf l ≡ Pass
-unfolding firstOf AllPass
+pub first-pass : (l : List Check) → AllPass l → first_of l ≡ Pass
+unfolding first_of AllPass
 first-pass [] v = refl
 first-pass (c ∷ l) v = rw v.0 (first-pass l v.1)
 
 -- one list behind the other
-pub first-append : (k l : List Check) → firstOf (k ++ l) ≡ (firstOf k then firstOf l)
-unfolding firstOf
+pub first-append : (k l : List Check) → first_of (k ++ l) ≡ (first_of k then first_of l)
+unfolding first_of
 first-append [] l = refl
 first-append (Pass ∷ k) l = first-append k l
 first-append (Fail refusal ∷ k) l = refl
 
-pub first-left : (k l : List Check) → firstOf (k ++ l) ≡ Pass → firstOf k ≡ Pass
-first-left k l e = then-left (firstOf k) (firstOf l) (sym (first-append k l) ∙ e)
+pub first-left : (k l : List Check) → first_of (k ++ l) ≡ Pass → first_of k ≡ Pass
+first-left k l e = then-left (first_of k) (first_of l) (sym (first-append k l) ∙ e)
 
-pub first-right : (k l : List Check) → firstOf (k ++ l) ≡ Pass → firstOf l ≡ Pass
-first-right k l e = then-right (firstOf k) (firstOf l) (sym (first-append k l) ∙ e)
+pub first-right : (k l : List Check) → first_of (k ++ l) ≡ Pass → first_of l ≡ Pass
+first-right k l e = then-right (first_of k) (first_of l) (sym (first-append k l) ∙ e)
 
 -- the first that fails is what is answered
-pub first-fails : (l : List Check) (f : FirstFails l) → firstOf l ≡ Fail f.refusal
-unfolding firstOf
-first-fails l f = ap firstOf f.is ∙ first-append f.before (Fail f.refusal ∷ f.after) ∙ rw (first-pass f.before f.passed)
+pub first-fails : (l : List Check) (f : FirstFails l) → first_of l ≡ Fail f.refusal
+unfolding first_of
+first-fails l f = ap first_of f.is ∙ first-append f.before (Fail f.refusal ∷ f.after) ∙ rw (first-pass f.before f.passed)
 
 -- all pass, or one is the first that fails
 pub all-or-first : (l : List Check) → AllPass l ⊎ FirstFails l

@@ -4,12 +4,12 @@ use mathlib.Core.Bool.{Bool, true, false, cond}
 use mathlib.Core.Logic.{◌⊎◌, inl, inr}
 use native.Mathlib.Omega.{arith}
 use Prim.Native.Nat.{ℕ, zero, suc, ◌+◌, ◌-◌, ◌≤◌, ◌<◌}
-use Rattle.records.specs.CheckOrder.{firstBad}
+use Rattle.records.specs.CheckOrder.{first_bad}
 
 -- the search that is left gives what the whole search gives
 pub record SearchInv (ok : ℕ → Bool) (n i : ℕ) : Type 0 where
   pub reach : i ≤ n
-  pub rest : firstBad ok (n - i) i ≡ firstBad ok n 0
+  pub rest : first_bad ok (n - i) i ≡ first_bad ok n 0
 
 pub search-start : (ok : ℕ → Bool) (n : ℕ) → SearchInv ok n 0
 search-start ok n = record { reach = omega arith; rest = let z : n - 0 ≡ n = omega arith in rw z }
@@ -19,15 +19,15 @@ module _ (ok : ℕ → Bool) (n i : ℕ) where
   one_more h = omega arith
 
   pub search-on : SearchInv ok n i → i < n → ok i ≡ true → SearchInv ok n (i + 1)
-  unfolding firstBad
+  unfolding first_bad
   search-on v h e = record { reach = omega arith; rest = rw (one_more h, e) at v.rest }
 
-  pub search-hit : SearchInv ok n i → i < n → ok i ≡ false → i + 1 ≡ firstBad ok n 0
-  unfolding firstBad
+  pub search-hit : SearchInv ok n i → i < n → ok i ≡ false → i + 1 ≡ first_bad ok n 0
+  unfolding first_bad
   search-hit v h e = rw (one_more h, e) at v.rest
 
-  pub search-none : SearchInv ok n i → n ≤ i → 0 ≡ firstBad ok n 0
-  unfolding firstBad
+  pub search-none : SearchInv ok n i → n ≤ i → 0 ≡ first_bad ok n 0
+  unfolding first_bad
   search-none v h = let z : n - i ≡ 0 = omega arith in rw z at v.rest
 
 le_split : (i j : ℕ) → i ≤ j → (i ≡ j) ⊎ (i + 1 ≤ j)
@@ -44,8 +44,8 @@ le_split (suc i) (suc j) h = up (le_split i j (omega arith))
     up (inr q) = inr (omega arith)
 
 -- where none is bad, each is ok
-pub none-bad : (ok : ℕ → Bool) (n i : ℕ) → firstBad ok n i ≡ 0 → (j : ℕ) → i ≤ j → j < i + n → ok j ≡ true
-unfolding firstBad
+pub none-bad : (ok : ℕ → Bool) (n i : ℕ) → first_bad ok n i ≡ 0 → (j : ℕ) → i ≤ j → j < i + n → ok j ≡ true
+unfolding first_bad
 none-bad ok zero i e j h l = absurd (no_way i j h l)
   where
     no_way : (i j : ℕ) → i ≤ j → j < i + 0 → ⊥
@@ -55,16 +55,16 @@ none-bad ok (suc n) i e j h l = go (ok i) refl (λ z q. none-bad ok n (i + 1) z 
     no_way : (i : ℕ) → i + 1 ≡ 0 → ⊥
     no_way i e = omega arith
 
-    by : ok i ≡ true → (firstBad ok n (i + 1) ≡ 0 → i + 1 ≤ j → ok j ≡ true) → firstBad ok n (i + 1) ≡ 0 → (i ≡ j) ⊎ (i + 1 ≤ j) → ok j ≡ true
+    by : ok i ≡ true → (first_bad ok n (i + 1) ≡ 0 → i + 1 ≤ j → ok j ≡ true) → first_bad ok n (i + 1) ≡ 0 → (i ≡ j) ⊎ (i + 1 ≤ j) → ok j ≡ true
     by t f e (inl q) = rw q at t
     by t f e (inr q) = f e q
 
-    go : (t : Bool) → ok i ≡ t → (firstBad ok n (i + 1) ≡ 0 → i + 1 ≤ j → ok j ≡ true) → cond t (firstBad ok n (i + 1)) (i + 1) ≡ 0 → ok j ≡ true
+    go : (t : Bool) → ok i ≡ t → (first_bad ok n (i + 1) ≡ 0 → i + 1 ≤ j → ok j ≡ true) → cond t (first_bad ok n (i + 1)) (i + 1) ≡ 0 → ok j ≡ true
     go true t f e = by t f e (le_split i j h)
     go false t f e = absurd (no_way i e)
 
 -- and where each is ok, none is bad
-pub all-ok : (ok : ℕ → Bool) (n i : ℕ) → ((j : ℕ) → i ≤ j → j < i + n → ok j ≡ true) → firstBad ok n i ≡ 0
-unfolding firstBad
+pub all-ok : (ok : ℕ → Bool) (n i : ℕ) → ((j : ℕ) → i ≤ j → j < i + n → ok j ≡ true) → first_bad ok n i ≡ 0
+unfolding first_bad
 all-ok ok zero i f = refl
 all-ok ok (suc n) i f = rw (f i (omega arith) (omega arith)) (all-ok ok n (i + 1) (λ j h l. f j (omega arith) (omega arith)))

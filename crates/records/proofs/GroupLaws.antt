@@ -13,8 +13,8 @@ use lib.Seq.{sets, sets-eq, length-sets, take_at, take_all, get_or-take, get_or-
 use lib.IntN.{ℤ, pos}
 use Rattle.records.specs.declared.Point.{Point}
 use Rattle.records.specs.declared.Row.{Row}
-use Rattle.records.specs.Groups.{wholes, at, pointAt, ofPoint, rowAt, ofRow, groups, flat}
-use Rattle.records.specs.Rows.{freshRow}
+use Rattle.records.specs.Groups.{wholes, at, point_at, of_point, row_at, of_row, groups, flat}
+use Rattle.records.specs.Rows.{fresh_row}
 
 -- as many groups as are counted are there
 pub wholes-fit : (width len : ℕ) → width * wholes width len ≤ len
@@ -160,8 +160,8 @@ pub groups-list : {A : Type 0} (f : ℕ → A) (l : List A) (d : A) (n : ℕ) �
 groups-list f l d n s h = ext_get_or d l (groups f n) (s ∙ sym (groups-length f n)) (λ i k. h i (omega arith) ∙ sym (groups-at f d n i (omega arith)))
 
 -- row i of the numbers of rows, one after the other; past them all is zero
-pub row-flat : {A : Type 0} (row : A → Row) (l : List A) (i : ℕ) (d : A) → row d ≡ freshRow → rowAt (flat (λ (x : A). ofRow (row x)) l) i ≡ row (get_or l i d)
-unfolding rowAt flat
+pub row-flat : {A : Type 0} (row : A → Row) (l : List A) (i : ℕ) (d : A) → row d ≡ fresh_row → row_at (flat (λ (x : A). of_row (row x)) l) i ≡ row (get_or l i d)
+unfolding row_at flat
 row-flat row [] i d e = sym e
 row-flat row (x ∷ l) zero d e = refl
 row-flat row (x ∷ l) (suc i) d e =
@@ -199,9 +199,9 @@ pub same_point : {w w' a a' d d' : ℤ} → w ≡ w' → a ≡ a' → d ≡ d' �
 same_point e f g = rw (e, f, g)
 
 -- point i of the numbers of points
-pub point-flat : (l : List Point) (d : Point) (i : ℕ) → i < length l → pointAt (flat ofPoint l) i ≡ get_or l i d
-unfolding pointAt
+pub point-flat : (l : List Point) (d : Point) (i : ℕ) → i < length l → point_at (flat of_point l) i ≡ get_or l i d
+unfolding point_at
 point-flat l d i h =
-    let read = flat-at 3 ofPoint (λ p. refl) l d i in
+    let read = flat-at 3 of_point (λ p. refl) l d i in
     let z : 3 * i ≡ 3 * i + 0 = omega arith in
-    same_point (ap (at (flat ofPoint l)) z ∙ read 0 h (omega arith)) (read 1 h (omega arith)) (read 2 h (omega arith))
+    same_point (ap (at (flat of_point l)) z ∙ read 0 h (omega arith)) (read 1 h (omega arith)) (read 2 h (omega arith))

@@ -12,7 +12,7 @@ use Rattle.ranges.specs.Bounds.{Sized}
 use Rattle.ranges.specs.Range.{Positive}
 use Rattle.ranges.proofs.Branches.{lt-true, lt-false, le-true, le-false}
 use Rattle.ranges.proofs.LinearSolver.{zomega, says, ◌&◌}
-use Rattle.records.specs.Limits.{inside, rangeInside, waterOk}
+use Rattle.records.specs.Limits.{inside, range_inside, water_ok}
 
 -- ---- flags
 
@@ -82,20 +82,20 @@ pub record RangeBetween (low high : ℤ) (r : Range) : Type 0 where
   pub low-in : Between low high r.low
   pub high-in : Between low high r.high
 
-pub range-between : (low high : ℤ) (r : Range) → rangeInside low high r ≡ true → RangeBetween low high r
-unfolding rangeInside
+pub range-between : (low high : ℤ) (r : Range) → range_inside low high r ≡ true → RangeBetween low high r
+unfolding range_inside
 range-between low high r e = record {
   low-in = between low high r.low (and_left (inside low high r.low) (inside low high r.high) e);
   high-in = between low high r.high (and_right (inside low high r.low) (inside low high r.high) e);
 }
 
-pub range-within : (low high : ℤ) (r : Range) → RangeBetween low high r → rangeInside low high r ≡ true
-unfolding rangeInside
+pub range-within : (low high : ℤ) (r : Range) → RangeBetween low high r → range_inside low high r ≡ true
+unfolding range_inside
 range-within low high r h = and_both (inside low high r.low) (inside low high r.high) (within low high r.low h.low-in) (within low high r.high h.high-in)
 
 -- ---- both ends of a water depth
 
-module _ (r : Range) (e : waterOk r ≡ true) where
+module _ (r : Range) (e : water_ok r ≡ true) where
   ends : RangeBetween (pos 100) (pos 100000) r
   ends = range-between (pos 100) (pos 100000) r e
 

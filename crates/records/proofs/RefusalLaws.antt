@@ -3,10 +3,10 @@ use native.Mathlib.Omega.{arith}
 use Prim.Native.Nat.{◌<◌}
 use Rattle.records.specs.declared.Kind.{Kind}
 use Rattle.records.specs.declared.Kind.TheVariants.{Names, Malformed, Ended, Differs, Points, TraverseValue, Distance, Lent, RecordValue, Depth, Flux, Setup, StormValue, WindRadii, CardOrder, CardUnit, CardCounts, CalmAngle}
-use Rattle.records.specs.Refusals.{numberOf}
+use Rattle.records.specs.Refusals.{number_of}
 
 -- none is 0, which says that there is none
-pub number-above : (k : Kind) → 0 < numberOf k
+pub number-above : (k : Kind) → 0 < number_of k
 number-above Names = omega arith
 number-above Malformed = omega arith
 number-above Ended = omega arith

@@ -19,19 +19,19 @@ Pass then c = c
 Fail refusal then c = Fail refusal
 
 -- the first of n places from i on that is bad, counted from 1; 0 where there is none
-unfoldable pub firstBad : (ℕ → Bool) → ℕ → ℕ → ℕ
-firstBad ok zero i = 0
-firstBad ok (suc n) i = cond (ok i) (firstBad ok n (i + 1)) (i + 1)
+unfoldable pub first_bad : (ℕ → Bool) → ℕ → ℕ → ℕ
+first_bad ok zero i = 0
+first_bad ok (suc n) i = cond (ok i) (first_bad ok n (i + 1)) (i + 1)
 
 -- each of n places, or the refusal of a kind at the first bad one
 abbrev pub each : Kind → (ℕ → Bool) → ℕ → Check
-each kind ok n = need (eqb (firstBad ok n 0) 0) (refusal kind (firstBad ok n 0))
+each kind ok n = need (eqb (first_bad ok n 0) 0) (refusal kind (first_bad ok n 0))
 
 -- ---- a list of checks, in their order
 
-unfoldable pub firstOf : List Check → Check
-firstOf [] = Pass
-firstOf (c ∷ l) = c then firstOf l
+unfoldable pub first_of : List Check → Check
+first_of [] = Pass
+first_of (c ∷ l) = c then first_of l
 
 unfoldable pub AllPass : List Check → Type 0
 AllPass [] = Unit {0}

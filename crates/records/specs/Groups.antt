@@ -16,53 +16,53 @@ at l i = get_or l i (pos 0)
 
 -- ---- a point of a traverse: distance, depth
 
-abbrev pub stationCount : List ℤ → ℕ
-stationCount l = wholes 2 (length l)
+abbrev pub station_count : List ℤ → ℕ
+station_count l = wholes 2 (length l)
 
-unfoldable pub stationAt : List ℤ → ℕ → Station
-stationAt l i = record { distance = at l (2 * i); depth = at l (2 * i + 1) }
+unfoldable pub station_at : List ℤ → ℕ → Station
+station_at l i = record { distance = at l (2 * i); depth = at l (2 * i + 1) }
 
-abbrev pub ofStation : Station → List ℤ
-ofStation s = s.distance ∷ s.depth ∷ []
+abbrev pub of_station : Station → List ℤ
+of_station s = s.distance ∷ s.depth ∷ []
 
-unfoldable pub putStation : List ℤ → ℕ → Station → List ℤ
-putStation l i s = sets l (2 * i) (ofStation s)
+unfoldable pub put_station : List ℤ → ℕ → Station → List ℤ
+put_station l i s = sets l (2 * i) (of_station s)
 
 -- ---- a point of a record: wind, angle, deficit
 
-abbrev pub pointCount : List ℤ → ℕ
-pointCount l = wholes 3 (length l)
+abbrev pub point_count : List ℤ → ℕ
+point_count l = wholes 3 (length l)
 
-unfoldable pub pointAt : List ℤ → ℕ → Point
-pointAt l i = record { wind = at l (3 * i); angle = at l (3 * i + 1); deficit = at l (3 * i + 2) }
+unfoldable pub point_at : List ℤ → ℕ → Point
+point_at l i = record { wind = at l (3 * i); angle = at l (3 * i + 1); deficit = at l (3 * i + 2) }
 
-abbrev pub ofPoint : Point → List ℤ
-ofPoint p = p.wind ∷ p.angle ∷ p.deficit ∷ []
+abbrev pub of_point : Point → List ℤ
+of_point p = p.wind ∷ p.angle ∷ p.deficit ∷ []
 
-unfoldable pub putPoint : List ℤ → ℕ → Point → List ℤ
-putPoint l i p = sets l (3 * i) (ofPoint p)
+unfoldable pub put_point : List ℤ → ℕ → Point → List ℤ
+put_point l i p = sets l (3 * i) (of_point p)
 
 -- ---- a row: "flux low, flux high, and the last sum of the two cross stresses"
 
-abbrev pub rowCount : List ℤ → ℕ
-rowCount l = wholes 3 (length l)
+abbrev pub row_count : List ℤ → ℕ
+row_count l = wholes 3 (length l)
 
-unfoldable pub rowAt : List ℤ → ℕ → Row
-rowAt l i = record { low = at l (3 * i); high = at l (3 * i + 1); cross = at l (3 * i + 2) }
+unfoldable pub row_at : List ℤ → ℕ → Row
+row_at l i = record { low = at l (3 * i); high = at l (3 * i + 1); cross = at l (3 * i + 2) }
 
-abbrev pub ofRow : Row → List ℤ
-ofRow v = v.low ∷ v.high ∷ v.cross ∷ []
+abbrev pub of_row : Row → List ℤ
+of_row v = v.low ∷ v.high ∷ v.cross ∷ []
 
-unfoldable pub putRow : List ℤ → ℕ → Row → List ℤ
-putRow l i v = sets l (3 * i) (ofRow v)
+unfoldable pub put_row : List ℤ → ℕ → Row → List ℤ
+put_row l i v = sets l (3 * i) (of_row v)
 
 -- ---- a range: low, high
 
-abbrev pub rangeAt : List ℤ → ℕ → Range
-rangeAt l i = record { low = at l (2 * i); high = at l (2 * i + 1) }
+abbrev pub range_at : List ℤ → ℕ → Range
+range_at l i = record { low = at l (2 * i); high = at l (2 * i + 1) }
 
-abbrev pub ofRange : Range → List ℤ
-ofRange r = r.low ∷ r.high ∷ []
+abbrev pub of_range : Range → List ℤ
+of_range r = r.low ∷ r.high ∷ []
 
 -- ---- lists of groups
 

@@ -4,25 +4,25 @@ use Rattle.records.specs.declared.Kind.{Kind}
 use Rattle.records.specs.declared.Kind.TheVariants.{Names, Malformed, Ended, Differs, Points, TraverseValue, Distance, Lent, RecordValue, Depth, Flux, Setup, StormValue, WindRadii, CardOrder, CardUnit, CardCounts, CalmAngle}
 use Rattle.records.specs.declared.Refusal.{Refusal}
 
-abbrev pub numberOf : Kind → ℕ
-numberOf Names = 1
-numberOf Malformed = 2
-numberOf Ended = 3
-numberOf Differs = 4
-numberOf Points = 5
-numberOf TraverseValue = 6
-numberOf Distance = 7
-numberOf Lent = 8
-numberOf RecordValue = 9
-numberOf Depth = 10
-numberOf Flux = 11
-numberOf Setup = 12
-numberOf StormValue = 13
-numberOf WindRadii = 14
-numberOf CardOrder = 15
-numberOf CardUnit = 16
-numberOf CardCounts = 17
-numberOf CalmAngle = 18
+abbrev pub number_of : Kind → ℕ
+number_of Names = 1
+number_of Malformed = 2
+number_of Ended = 3
+number_of Differs = 4
+number_of Points = 5
+number_of TraverseValue = 6
+number_of Distance = 7
+number_of Lent = 8
+number_of RecordValue = 9
+number_of Depth = 10
+number_of Flux = 11
+number_of Setup = 12
+number_of StormValue = 13
+number_of WindRadii = 14
+number_of CardOrder = 15
+number_of CardUnit = 16
+number_of CardCounts = 17
+number_of CalmAngle = 18
 
 -- a refusal of a kind at a place
 abbrev pub refusal : Kind → ℕ → Refusal

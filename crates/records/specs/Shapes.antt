@@ -2,7 +2,7 @@
 use Rattle.std.specs.Prelude.{List, ℕ, ℤ}
 use Rattle.records.specs.declared.Head.{Head}
 use Rattle.records.specs.declared.Closing.{Closing}
-use Rattle.records.specs.Groups.{stationCount}
+use Rattle.records.specs.Groups.{station_count}
 
 -- two numbers a point, sea to shore
 pub record Traverse : Type 0 where
@@ -14,7 +14,7 @@ traverse head points = record { head = head; points = points }
 
 -- how many points it has
 abbrev pub count : Traverse → ℕ
-count t = stationCount t.points
+count t = station_count t.points
 
 -- three numbers a point, in the order of the traverse
 pub record Record : Type 0 where

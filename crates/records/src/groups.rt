@@ -1,6 +1,6 @@
 // One group of a slice of numbers, read into a struct or written from one. All index arithmetic of groups stands here.
 ghost use Rattle.std.specs.Prelude.{◌≡◌, ◌+◌, ◌*◌, ◌<◌, length};
-ghost use Rattle.records.specs.Groups.{wholes, stationAt, pointAt, rowAt, putStation, putPoint, putRow};
+ghost use Rattle.records.specs.Groups.{wholes, station_at, point_at, row_at, put_station, put_point, put_row};
 
 use super::{Point, Row, Station};
 
@@ -17,7 +17,7 @@ pub fn whole_groups(width: usize, len: usize) -> usize
 
 pub fn station_at(points: &[i64], i: usize) -> Station
     requires { 2 * i + 1 < length points.now }
-    ensures { result ≡ stationAt points.now i }
+    ensures { result ≡ station_at points.now i }
 {
     let at = Station::NUMBERS * i;
     let distance = points[at];
@@ -30,7 +30,7 @@ pub fn station_at(points: &[i64], i: usize) -> Station
 
 pub fn store_station(points: &mut [i64], i: usize, station: Station)
     requires { 2 * i + 1 < length points.old }
-    ensures { points.new ≡ putStation points.old i station }
+    ensures { points.new ≡ put_station points.old i station }
 {
     let at = Station::NUMBERS * i;
     let distance = station.distance;
@@ -41,7 +41,7 @@ pub fn store_station(points: &mut [i64], i: usize, station: Station)
 
 pub fn point_at(storm: &[i64], i: usize) -> Point
     requires { 3 * i + 2 < length storm.now }
-    ensures { result ≡ pointAt storm.now i }
+    ensures { result ≡ point_at storm.now i }
 {
     let at = Point::NUMBERS * i;
     let wind = storm[at];
@@ -56,7 +56,7 @@ pub fn point_at(storm: &[i64], i: usize) -> Point
 
 pub fn store_point(storm: &mut [i64], i: usize, point: Point)
     requires { 3 * i + 2 < length storm.old }
-    ensures { storm.new ≡ putPoint storm.old i point }
+    ensures { storm.new ≡ put_point storm.old i point }
 {
     let at = Point::NUMBERS * i;
     let wind = point.wind;
@@ -69,7 +69,7 @@ pub fn store_point(storm: &mut [i64], i: usize, point: Point)
 
 pub fn row_at(rows: &[i64], i: usize) -> Row
     requires { 3 * i + 2 < length rows.now }
-    ensures { result ≡ rowAt rows.now i }
+    ensures { result ≡ row_at rows.now i }
 {
     let at = Row::NUMBERS * i;
     let low = rows[at];
@@ -84,7 +84,7 @@ pub fn row_at(rows: &[i64], i: usize) -> Row
 
 pub fn store_row(rows: &mut [i64], i: usize, row: Row)
     requires { 3 * i + 2 < length rows.old }
-    ensures { rows.new ≡ putRow rows.old i row }
+    ensures { rows.new ≡ put_row rows.old i row }
 {
     let at = Row::NUMBERS * i;
     let low = row.low;

@@ -4,8 +4,8 @@
 
 ghost use Rattle.std.specs.Prelude.{◌≡◌, eqb};
 ghost use Rattle.records.specs.CheckOrder.{need};
-ghost use Rattle.records.specs.Refusals.{numberOf, refusal};
-ghost use Rattle.records.specs.Rows.{freshRow};
+ghost use Rattle.records.specs.Refusals.{number_of, refusal};
+ghost use Rattle.records.specs.Rows.{fresh_row};
 
 pub mod groups;
 pub mod limits;
@@ -74,7 +74,7 @@ impl Row {
 
     // The row of a fresh traverse.
     pub fn fresh() -> Self
-        ensures { result ≡ freshRow }
+        ensures { result ≡ fresh_row }
     {
         Row {
             low: 0,
@@ -112,7 +112,7 @@ pub enum Kind {
 impl Kind {
     // The papers' number.
     pub fn number(self) -> u64
-        ensures { result ≡ numberOf self }
+        ensures { result ≡ number_of self }
     {
         match self {
             Kind::Names => 1,
@@ -148,7 +148,7 @@ pub struct Refusal {
 impl Refusal {
     // The number of its kind.
     pub fn number(self) -> u64
-        ensures { result ≡ numberOf self.kind }
+        ensures { result ≡ number_of self.kind }
     {
         let kind = self.kind;
         kind.number()

@@ -1,7 +1,7 @@
 // The limits of document 01's table of quantities, by name, and the tests against them. Both ends belong to a limit. Those of a row stand
 // with the row. `specs/Limits.antt` has the same numbers for the definitions.
 ghost use Rattle.std.specs.Prelude.{◌≡◌};
-ghost use Rattle.records.specs.Limits.{inside as insideOf, rangeInside, countOk, headOk, stationOk, pointOk, calm, calmOk, rowOk, secondsOk};
+ghost use Rattle.records.specs.Limits.{inside, range_inside, count_ok, head_ok, station_ok, point_ok, calm, calm_ok, row_ok, seconds_ok};
 
 use super::{Head, Point, Row, Station};
 use ranges::Range;
@@ -84,7 +84,7 @@ pub const SETUP: i64 = 1_000_000;
 
 // low ≤ x ≤ high
 pub fn inside(x: i64, low: i64, high: i64) -> bool
-    ensures { result ≡ insideOf low high x }
+    ensures { result ≡ inside low high x }
 {
     if x < low {
         return false;
@@ -94,7 +94,7 @@ pub fn inside(x: i64, low: i64, high: i64) -> bool
 
 // Both ends of a range.
 pub fn range_inside(r: Range, low: i64, high: i64) -> bool
-    ensures { result ≡ rangeInside low high r }
+    ensures { result ≡ range_inside low high r }
 {
     if inside(r.low, low, high) {
         return inside(r.high, low, high);
@@ -104,7 +104,7 @@ pub fn range_inside(r: Range, low: i64, high: i64) -> bool
 
 // Whether a traverse may have so many points, where it may have `most`.
 pub fn count_ok(most: usize, n: usize) -> bool
-    ensures { result ≡ countOk most n }
+    ensures { result ≡ count_ok most n }
 {
     if n < POINTS_LEAST {
         return false;
@@ -113,7 +113,7 @@ pub fn count_ok(most: usize, n: usize) -> bool
 }
 
 pub fn head_ok(h: Head) -> bool
-    ensures { result ≡ headOk h }
+    ensures { result ≡ head_ok h }
 {
     if !inside(h.latitude, LATITUDE_LOW, LATITUDE_HIGH) {
         return false;
@@ -125,7 +125,7 @@ pub fn head_ok(h: Head) -> bool
 }
 
 pub fn station_ok(s: Station) -> bool
-    ensures { result ≡ stationOk s }
+    ensures { result ≡ station_ok s }
 {
     if !inside(s.distance, DISTANCE_LOW, DISTANCE_HIGH) {
         return false;
@@ -134,7 +134,7 @@ pub fn station_ok(s: Station) -> bool
 }
 
 pub fn point_ok(p: Point) -> bool
-    ensures { result ≡ pointOk p }
+    ensures { result ≡ point_ok p }
 {
     if !inside(p.wind, WIND_LOW, WIND_HIGH) {
         return false;
@@ -153,7 +153,7 @@ pub fn is_calm(wind: i64) -> bool
 
 // A calm has no direction: a wind of 0 carries angle 0.
 pub fn calm_ok(p: Point) -> bool
-    ensures { result ≡ calmOk p }
+    ensures { result ≡ calm_ok p }
 {
     if !is_calm(p.wind) {
         return true;
@@ -162,7 +162,7 @@ pub fn calm_ok(p: Point) -> bool
 }
 
 pub fn row_ok(v: Row) -> bool
-    ensures { result ≡ rowOk v }
+    ensures { result ≡ row_ok v }
 {
     if v.high < v.low {
         return false;
@@ -179,7 +179,7 @@ pub fn row_ok(v: Row) -> bool
 
 // Seconds of a first record, and of a later one.
 pub fn seconds_ok(started: bool, seconds: i64) -> bool
-    ensures { result ≡ secondsOk started seconds }
+    ensures { result ≡ seconds_ok started seconds }
 {
     if started {
         return inside(seconds, SECONDS_LOW, SECONDS_HIGH);

@@ -7,18 +7,18 @@ use Prim.Native.Nat.{ℕ}
 use lib.IntN.{ℤ, pos, negsuc}
 use Rattle.ranges.specs.declared.Range.{Range}
 use Rattle.ranges.specs.Range.{lesser, greater, nearest}
-use Rattle.ranges.specs.Quotient.{quotientLow, quotientHigh}
-use Rattle.ranges.specs.Damped.{dampedLeast, dampedMost, dampedLow, dampedHigh, dampedFloor, dampedCeil}
-use Rattle.forcing.specs.Force.{forceOf}
+use Rattle.ranges.specs.Quotient.{quotient_low, quotient_high}
+use Rattle.ranges.specs.Damped.{damped_least, damped_most, damped_low, damped_high, damped_floor, damped_ceil}
+use Rattle.forcing.specs.Force.{force_of}
 use Rattle.records.specs.declared.Row.{Row}
 use Rattle.segment.specs.declared.Site.{Site}
 use Rattle.segment.specs.declared.Weather.{Weather}
 use Rattle.segment.specs.declared.SegmentAnswer.{SegmentAnswer}
 use Rattle.segment.specs.declared.SegmentAnswer.TheVariants.{On, Stop}
-use Rattle.records.specs.Limits.{inside, rangeInside}
-use Rattle.records.specs.Refusals.{numberOf}
-use Rattle.records.specs.Rows.{freshRow}
-use Rattle.segment.specs.Segment.{depthOf, fluxOf, gainOf, nextSetup, segmentForce, segmentSetup, segmentOf}
+use Rattle.records.specs.Limits.{inside, range_inside}
+use Rattle.records.specs.Refusals.{number_of}
+use Rattle.records.specs.Rows.{fresh_row}
+use Rattle.segment.specs.Segment.{depth_of, flux_of, gain_of, next_setup, segment_force, segment_setup, segment_of}
 
 abbrev one : ℤ → Range
 one z = record { low = z; high = z }
@@ -31,8 +31,8 @@ site = record { length = pos 10; depths = pos 1000; sine = pos 5000; friction = 
 abbrev weather : ℤ → ℤ → ℤ → Weather
 weather seconds cross onshore = record { seconds = seconds; level = pos 0; deficits = pos 0; cross = cross; onshore = onshore }
 
-abbrev atLevel : ℤ → Weather → Weather
-atLevel level w = record { seconds = w.seconds; level = level; deficits = w.deficits; cross = w.cross; onshore = w.onshore }
+abbrev at_level : ℤ → Weather → Weather
+at_level level w = record { seconds = w.seconds; level = level; deficits = w.deficits; cross = w.cross; onshore = w.onshore }
 
 abbrev row : ℤ → ℤ → Row
 row flux cross = record { low = flux; high = flux; cross = cross }
@@ -45,30 +45,30 @@ pub record SegmentRun : Type 0 where
 abbrev run : Range → ℤ → ℤ → SegmentRun
 run given low high = record { given = given; paper = record { low = low; high = high } }
 
-abbrev pub segmentRuns : List SegmentRun
-segmentRuns =
+abbrev pub segment_runs : List SegmentRun
+segment_runs =
     -- water depth: two points of 50.0 ft
-    run (depthOf site (weather (pos 0) (pos 0) (pos 0)) (one (pos 0))) (pos 5000) (pos 5000)
+    run (depth_of site (weather (pos 0) (pos 0) (pos 0)) (one (pos 0))) (pos 5000) (pos 5000)
     -- "Gain, X 10, δ 5,000: s 5,000, v 10,000, Y 0 gives 274 to 275"
-    ∷ run (gainOf site (weather (pos 0) (pos 0) (pos 0)) (one (pos 10000)) (one (pos 5000))) (pos 274) (pos 275)
+    ∷ run (gain_of site (weather (pos 0) (pos 0) (pos 0)) (one (pos 10000)) (one (pos 5000))) (pos 274) (pos 275)
     -- "v 0 and wind 1,000 at angle 0 at both ends gives 2,325 to 2,326": q is 28,640,000 and the cosine 10,000
-    ∷ run (gainOf site (weather (pos 0) (pos 0) (pos 572800000000)) (one (pos 0)) (one (pos 5000))) (pos 2325) (pos 2326)
+    ∷ run (gain_of site (weather (pos 0) (pos 0) (pos 572800000000)) (one (pos 0)) (one (pos 5000))) (pos 2325) (pos 2326)
     -- "Force, wind 1,000 at angle 900 in all four places, Δt 1,800: 11,089 to 11,090; at angle 2,700: -11,090 to -11,089"
-    ∷ run (segmentForce false (weather (pos 1800) (pos 572800000000) (pos 0)) (row (pos 0) (pos 572800000000))) (pos 11089) (pos 11090)
-    ∷ run (segmentForce false (weather (pos 1800) (negsuc 572799999999) (pos 0)) (row (pos 0) (negsuc 572799999999))) (negsuc 11089) (negsuc 11088)
+    ∷ run (segment_force false (weather (pos 1800) (pos 572800000000) (pos 0)) (row (pos 0) (pos 572800000000))) (pos 11089) (pos 11090)
+    ∷ run (segment_force false (weather (pos 1800) (negsuc 572799999999) (pos 0)) (row (pos 0) (negsuc 572799999999))) (negsuc 11089) (negsuc 11088)
     -- "Flux, F 0, κ 25, δ 1,000: v 1,000, Δt 1,800 gives 689 to 690; v -1,000 gives -690 to -689; v 2,500, Δt 1,600 gives 1,250 to 1,250"
-    ∷ run (fluxOf false site (weather (pos 1800) (pos 0) (pos 0)) (row (pos 1000) (pos 0)) (one (pos 1000))) (pos 689) (pos 690)
-    ∷ run (fluxOf false site (weather (pos 1800) (pos 0) (pos 0)) (row (negsuc 999) (pos 0)) (one (pos 1000))) (negsuc 689) (negsuc 688)
-    ∷ run (fluxOf false site (weather (pos 1600) (pos 0) (pos 0)) (row (pos 2500) (pos 0)) (one (pos 1000))) (pos 1250) (pos 1250)
+    ∷ run (flux_of false site (weather (pos 1800) (pos 0) (pos 0)) (row (pos 1000) (pos 0)) (one (pos 1000))) (pos 689) (pos 690)
+    ∷ run (flux_of false site (weather (pos 1800) (pos 0) (pos 0)) (row (negsuc 999) (pos 0)) (one (pos 1000))) (negsuc 689) (negsuc 688)
+    ∷ run (flux_of false site (weather (pos 1600) (pos 0) (pos 0)) (row (pos 2500) (pos 0)) (one (pos 1000))) (pos 1250) (pos 1250)
     -- "In the first record the flux stays 0"
-    ∷ run (fluxOf true site (weather (pos 0) (pos 572800000000) (pos 0)) freshRow (one (pos 1000))) (pos 0) (pos 0)
+    ∷ run (flux_of true site (weather (pos 0) (pos 572800000000) (pos 0)) fresh_row (one (pos 1000))) (pos 0) (pos 0)
     -- the listing's two records, of one segment: 2,325 to 2,326, and 7,302 to 7,303 less the 5,000 of its tide of 50
-    ∷ run (segmentSetup true site (weather (pos 0) (pos 0) (pos 572800000000)) freshRow (one (pos 0))) (pos 2325) (pos 2326)
-    ∷ run (segmentSetup false site (atLevel (pos 50) (weather (pos 1600) (pos 0) (pos 572800000000))) freshRow (one (pos 0))) (pos 2302) (pos 2303)
+    ∷ run (segment_setup true site (weather (pos 0) (pos 0) (pos 572800000000)) fresh_row (one (pos 0))) (pos 2325) (pos 2326)
+    ∷ run (segment_setup false site (at_level (pos 50) (weather (pos 1600) (pos 0) (pos 572800000000))) fresh_row (one (pos 0))) (pos 2302) (pos 2303)
     ∷ []
 
-pub segment-runs : map (λ (r : SegmentRun). r.given) segmentRuns ≡ map (λ (r : SegmentRun). r.paper) segmentRuns
-unfolding depthOf gainOf fluxOf nextSetup forceOf quotientLow quotientHigh dampedLeast dampedMost dampedLow dampedHigh dampedFloor dampedCeil lesser greater nearest
+pub segment-runs : map (λ (r : SegmentRun). r.given) segment_runs ≡ map (λ (r : SegmentRun). r.paper) segment_runs
+unfolding depth_of gain_of flux_of next_setup force_of quotient_low quotient_high damped_least damped_most damped_low damped_high damped_floor damped_ceil lesser greater nearest
 segment-runs = refl
 
 -- ---- "Edges: δ 100 and 100,000 pass, 99 and 100,001 get 10"
@@ -76,12 +76,12 @@ segment-runs = refl
 -- the number of a refusal; 0 for none
 abbrev number : SegmentAnswer → ℕ
 number (On leg) = 0
-number (Stop refusal) = numberOf refusal.kind
+number (Stop refusal) = number_of refusal.kind
 
 -- a first record without wind, over two points whose depths have such a sum
 abbrev still : ℤ → ℤ → SegmentAnswer
-still depths level = segmentOf 1 true (record { length = pos 10; depths = depths; sine = pos 5000; friction = pos 25 }) (atLevel level (weather (pos 0) (pos 0) (pos 0))) freshRow (one (pos 0))
+still depths level = segment_of 1 true (record { length = pos 10; depths = depths; sine = pos 5000; friction = pos 25 }) (at_level level (weather (pos 0) (pos 0) (pos 0))) fresh_row (one (pos 0))
 
 pub depth-edges : map number (still (pos 0) (pos 99) ∷ still (pos 0) (pos 100) ∷ still (pos 20000) (pos 0) ∷ still (pos 20000) (pos 1) ∷ []) ≡ 10 ∷ 0 ∷ 0 ∷ 10 ∷ []
-unfolding segmentOf depthOf gainOf fluxOf nextSetup quotientLow quotientHigh inside rangeInside
+unfolding segment_of depth_of gain_of flux_of next_setup quotient_low quotient_high inside range_inside
 depth-edges = refl

@@ -8,8 +8,8 @@ use lib.IntN.{ℤ, pos, negsuc, neg_ℤ, ◌+ℤ◌, ◌-ℤ◌, ◌*ℤ◌}
 use lib.Signed.{lt_z, ◌≤ℤ◌, ◌<ℤ◌}
 use Rattle.ranges.specs.declared.Range.{Range}
 use Rattle.ranges.specs.Bounds.{Sized, DampedSpan, DampedIn}
-use Rattle.ranges.specs.Division.{floorDiv, ceilDiv}
-use Rattle.ranges.specs.Quotient.{quotientLow, quotientHigh}
+use Rattle.ranges.specs.Division.{floor_div, ceil_div}
+use Rattle.ranges.specs.Quotient.{quotient_low, quotient_high}
 use Rattle.ranges.specs.Range.{Positive}
 use Rattle.ranges.proofs.LinearSolver.{zomega, says, ◌&◌}
 use Rattle.ranges.proofs.IntegerOrder.{le-or-gt, nn-mul}
@@ -18,15 +18,15 @@ use Rattle.ranges.proofs.DivisionLaws.{Floor, floor-is}
 use Rattle.records.specs.declared.Row.{Row}
 use Rattle.segment.specs.declared.Site.{Site}
 use Rattle.segment.specs.declared.Weather.{Weather}
-use Rattle.records.specs.Limits.{waterOk, fluxOk}
-use Rattle.records.specs.Rows.{rowFlux}
-use Rattle.segment.specs.Segment.{depthBase, drag, segmentForce, gainTop, gainOf, SiteIn, WeatherIn, RowIn, SetupIn, GainIn}
+use Rattle.records.specs.Limits.{water_ok, flux_ok}
+use Rattle.records.specs.Rows.{row_flux}
+use Rattle.segment.specs.Segment.{depth_base, drag, segment_force, gain_top, gain_of, SiteIn, WeatherIn, RowIn, SetupIn, GainIn}
 use Rattle.segment.proofs.SegmentForce.{segment-force-small}
 use Rattle.records.proofs.LimitLaws.{sized, range-between, water-positive, water-low-in, water-high-in}
 
 -- ---- both ends of a flux, and of a setup, which have the same limits
 
-pub ends-in : (r : Range) → fluxOk r ≡ true → SetupIn r
+pub ends-in : (r : Range) → flux_ok r ≡ true → SetupIn r
 ends-in r e = let b = range-between (negsuc 999999) (pos 1000000) r e in record { low = sized b.low-in; high = sized b.high-in }
 
 -- ---- a quotient is not larger than its numerator
@@ -52,22 +52,22 @@ sized-neg : {b x : ℤ} → Sized b x → Sized b (neg_ℤ x)
 sized-neg {b} {x} w = record { low = zomega (b ∷ x ∷ []) w.high (search says depth 20) (omega arith); high = zomega (b ∷ x ∷ []) w.low (search says depth 20) (omega arith) }
 
 module _ (b n : ℤ) (d : Range) (w : Sized b n) (p : Positive d) where
-  quotient-low-sized : Sized b (quotientLow n d)
-  unfolding quotientLow
+  quotient-low-sized : Sized b (quotient_low n d)
+  unfolding quotient_low
   quotient-low-sized = go (lt_z n (pos 0))
     where
-      go : (t : Bool) → Sized b (floorDiv n (cond t d.low d.high))
-      go true = floor-sized b n d.low (floorDiv n d.low) w p.low (floor-is n d.low p.low)
-      go false = floor-sized b n d.high (floorDiv n d.high) w p.high (floor-is n d.high p.high)
+      go : (t : Bool) → Sized b (floor_div n (cond t d.low d.high))
+      go true = floor-sized b n d.low (floor_div n d.low) w p.low (floor-is n d.low p.low)
+      go false = floor-sized b n d.high (floor_div n d.high) w p.high (floor-is n d.high p.high)
 
-  quotient-high-sized : Sized b (quotientHigh n d)
-  unfolding quotientHigh
+  quotient-high-sized : Sized b (quotient_high n d)
+  unfolding quotient_high
   quotient-high-sized = go (lt_z n (pos 0))
     where
-      up : (e : ℤ) → pos 0 <ℤ e → Sized b (ceilDiv n e)
-      up e h = sized-neg (floor-sized b (neg_ℤ n) e (floorDiv (neg_ℤ n) e) (sized-neg w) h (floor-is (neg_ℤ n) e h))
+      up : (e : ℤ) → pos 0 <ℤ e → Sized b (ceil_div n e)
+      up e h = sized-neg (floor-sized b (neg_ℤ n) e (floor_div (neg_ℤ n) e) (sized-neg w) h (floor-is (neg_ℤ n) e h))
 
-      go : (t : Bool) → Sized b (ceilDiv n (cond t d.high d.low))
+      go : (t : Bool) → Sized b (ceil_div n (cond t d.high d.low))
       go true = up d.high p.high
       go false = up d.low p.low
 
@@ -86,10 +86,10 @@ module _ {a : Site} {w : Weather} (i : SiteIn a) (j : WeatherIn w) where
   pub deficits-in : Sized (pos 34200) (pos 57 *ℤ w.deficits)
   deficits-in = sized-mul (sized-literal 57) j.deficits
 
-  pub base-in : Sized (pos 10334200) (depthBase a w)
+  pub base-in : Sized (pos 10334200) (depth_base a w)
   base-in = sized-add still-in deficits-in
 
-  pub depth-top-in : {s : ℤ} → Sized (pos 1000000) s → Sized (pos 11334200) (depthBase a w +ℤ s)
+  pub depth-top-in : {s : ℤ} → Sized (pos 1000000) s → Sized (pos 11334200) (depth_base a w +ℤ s)
   depth-top-in k = sized-add base-in k
 
   -- ---- flux
@@ -115,10 +115,10 @@ module _ {a : Site} {w : Weather} (i : SiteIn a) (j : WeatherIn w) where
     pub slope-in : Sized (pos 32710944000000000) (pos 2748816 *ℤ a.sine *ℤ v +ℤ pos 2030 *ℤ w.onshore)
     slope-in = sized-add turned-in wind-in
 
-    pub gain-top-in : Sized (pos 3271094400000000000) (gainTop a w v)
+    pub gain-top-in : Sized (pos 3271094400000000000) (gain_top a w v)
     gain-top-in = sized-mul i.length slope-in
 
-pub damped-in : {a : Site} {w : Weather} {v : Row} {δ : Range} → SiteIn a → WeatherIn w → RowIn v → waterOk δ ≡ true → DampedIn (drag a w) (rowFlux v) (segmentForce false w v) δ
+pub damped-in : {a : Site} {w : Weather} {v : Row} {δ : Range} → SiteIn a → WeatherIn w → RowIn v → water_ok δ ≡ true → DampedIn (drag a w) (row_flux v) (segment_force false w v) δ
 damped-in {a} {w} {v} {δ} i j k e = let f = segment-force-small j k in record { low = span f.0; high = span f.1 }
   where
     c-in : Sized (pos 1000000) (drag a w)
@@ -127,7 +127,7 @@ damped-in {a} {w} {v} {δ} i j k e = let f = segment-force-small j k in record {
       high = let h = (drag-in i j).high in let c = drag a w in zomega (c ∷ []) h (search says depth 20) (omega arith);
     }
 
-    span : {f : ℤ} → Sized (pos 1000000) f → DampedSpan (drag a w) (rowFlux v) f δ
+    span : {f : ℤ} → Sized (pos 1000000) f → DampedSpan (drag a w) (row_flux v) f δ
     span f = record {
       low = record { c-nn = drag-nn i j; c-in = c-in; v-in = k.low; f-in = f; d-pos = (water-positive δ e).low; d-in = water-low-in δ e };
       high = record { c-nn = drag-nn i j; c-in = c-in; v-in = k.high; f-in = f; d-pos = (water-positive δ e).high; d-in = water-high-in δ e };
@@ -142,12 +142,12 @@ divisor-positive δ p = record {
   high = let h = p.high in zomega (δ.high ∷ []) h (search says depth 20) (omega arith);
 }
 
-pub gain-in : {a : Site} {w : Weather} (v δ : Range) → SiteIn a → WeatherIn w → fluxOk v ≡ true → waterOk δ ≡ true → GainIn (gainOf a w v δ)
-unfolding gainOf
+pub gain-in : {a : Site} {w : Weather} (v δ : Range) → SiteIn a → WeatherIn w → flux_ok v ≡ true → water_ok δ ≡ true → GainIn (gain_of a w v δ)
+unfolding gain_of
 gain-in {a} {w} v δ i j ev eδ =
     let p = divisor-positive δ (water-positive δ eδ) in
     let f = ends-in v ev in
     record {
-      low = quotient-low-sized (pos 3271094400000000000) (gainTop a w v.low) _ (gain-top-in i j f.low) p;
-      high = quotient-high-sized (pos 3271094400000000000) (gainTop a w v.high) _ (gain-top-in i j f.high) p;
+      low = quotient-low-sized (pos 3271094400000000000) (gain_top a w v.low) _ (gain-top-in i j f.low) p;
+      high = quotient-high-sized (pos 3271094400000000000) (gain_top a w v.high) _ (gain-top-in i j f.high) p;
     }

@@ -14,27 +14,27 @@ use Rattle.segment.specs.declared.SegmentAnswer.TheVariants.{On, Stop}
 use Rattle.records.specs.declared.Refusal.{Refusal}
 use Rattle.records.specs.declared.Kind.TheVariants.{Depth, Flux, Setup}
 use Rattle.records.specs.Refusals.{refusal}
-use Rattle.records.specs.Limits.{waterOk, fluxOk, setupOk}
-use Rattle.records.specs.Rows.{rowFlux}
-use Rattle.segment.specs.Segment.{segmentDepth, segmentFlux, segmentSetup, legOf, segmentOf, WeatherIn, RowIn, SetupIn}
+use Rattle.records.specs.Limits.{water_ok, flux_ok, setup_ok}
+use Rattle.records.specs.Rows.{row_flux}
+use Rattle.segment.specs.Segment.{segment_depth, segment_flux, segment_setup, leg_of, segment_of, WeatherIn, RowIn, SetupIn}
 use Rattle.records.proofs.LimitLaws.{water-positive}
 use Rattle.segment.proofs.SegmentFits.{ends-in}
 
 pub record Passed (first : Bool) (a : Site) (w : Weather) (v : Row) (s : Range) (leg : Leg) : Type 0 where
-  pub water : waterOk (segmentDepth a w s) ≡ true
-  pub flux : fluxOk (segmentFlux first a w v s) ≡ true
-  pub setup : setupOk (segmentSetup first a w v s) ≡ true
-  pub is : leg ≡ legOf (segmentFlux first a w v s) w.cross (segmentSetup first a w v s)
+  pub water : water_ok (segment_depth a w s) ≡ true
+  pub flux : flux_ok (segment_flux first a w v s) ≡ true
+  pub setup : setup_ok (segment_setup first a w v s) ≡ true
+  pub is : leg ≡ leg_of (segment_flux first a w v s) w.cross (segment_setup first a w v s)
 
 never : (refusal : Refusal) (leg : Leg) → Stop refusal ≡ On leg → ⊥
 never refusal leg e = let z : ◌≡◌ {A = ℕ} 0 1 = cc in omega arith
 
-pub segment-on : (place : ℕ) (first : Bool) (a : Site) (w : Weather) (v : Row) (s : Range) (leg : Leg) → segmentOf place first a w v s ≡ On leg → Passed first a w v s leg
-unfolding segmentOf
-segment-on place first a w v s leg e = go (waterOk (segmentDepth a w s)) (fluxOk (segmentFlux first a w v s)) (setupOk (segmentSetup first a w v s)) refl refl refl e
+pub segment-on : (place : ℕ) (first : Bool) (a : Site) (w : Weather) (v : Row) (s : Range) (leg : Leg) → segment_of place first a w v s ≡ On leg → Passed first a w v s leg
+unfolding segment_of
+segment-on place first a w v s leg e = go (water_ok (segment_depth a w s)) (flux_ok (segment_flux first a w v s)) (setup_ok (segment_setup first a w v s)) refl refl refl e
   where
-    go : (t u z : Bool) → waterOk (segmentDepth a w s) ≡ t → fluxOk (segmentFlux first a w v s) ≡ u → setupOk (segmentSetup first a w v s) ≡ z →
-        cond t (cond u (cond z (On (legOf (segmentFlux first a w v s) w.cross (segmentSetup first a w v s))) (Stop (refusal Setup place))) (Stop (refusal Flux place))) (Stop (refusal Depth place)) ≡ On leg → Passed first a w v s leg
+    go : (t u z : Bool) → water_ok (segment_depth a w s) ≡ t → flux_ok (segment_flux first a w v s) ≡ u → setup_ok (segment_setup first a w v s) ≡ z →
+        cond t (cond u (cond z (On (leg_of (segment_flux first a w v s) w.cross (segment_setup first a w v s))) (Stop (refusal Setup place))) (Stop (refusal Flux place))) (Stop (refusal Depth place)) ≡ On leg → Passed first a w v s leg
     go true true true x y z e = record { water = x; flux = y; setup = z; is = same _ _ e }
       where
         same : (p q : Leg) → On p ≡ On q → q ≡ p
@@ -45,17 +45,17 @@ segment-on place first a w v s leg e = go (waterOk (segmentDepth a w s)) (fluxOk
 
 -- the leg's ranges are those of the formulas, and the new row and the new setup are fit for the next record and the next segment
 module _ {first : Bool} {a : Site} {w : Weather} {v : Row} {s : Range} {leg : Leg} (p : Passed first a w v s leg) where
-  pub passed-water : Positive (segmentDepth a w s)
-  passed-water = water-positive (segmentDepth a w s) p.water
+  pub passed-water : Positive (segment_depth a w s)
+  passed-water = water-positive (segment_depth a w s) p.water
 
   pub passed-row : WeatherIn w → RowIn leg.row
-  passed-row j = let f = ends-in (segmentFlux first a w v s) p.flux in rw p.is (record { low = f.low; high = f.high; cross = j.cross })
+  passed-row j = let f = ends-in (segment_flux first a w v s) p.flux in rw p.is (record { low = f.low; high = f.high; cross = j.cross })
 
   pub passed-setup : SetupIn leg.setup
-  passed-setup = rw p.is (ends-in (segmentSetup first a w v s) p.setup)
+  passed-setup = rw p.is (ends-in (segment_setup first a w v s) p.setup)
 
-  pub passed-flux-is : rowFlux leg.row ≡ segmentFlux first a w v s
+  pub passed-flux-is : row_flux leg.row ≡ segment_flux first a w v s
   passed-flux-is = rw p.is refl
 
-  pub passed-setup-is : leg.setup ≡ segmentSetup first a w v s
+  pub passed-setup-is : leg.setup ≡ segment_setup first a w v s
   passed-setup-is = rw p.is refl

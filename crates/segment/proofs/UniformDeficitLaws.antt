@@ -5,17 +5,17 @@ use mathlib.Core.List.{[], ◌∷◌}
 use native.Mathlib.Omega.{arith}
 use lib.IntN.{ℤ, pos, ◌+ℤ◌, ◌*ℤ◌}
 use lib.Signed.{lt_z}
-use Rattle.ranges.specs.Division.{floorDiv, ceilDiv}
+use Rattle.ranges.specs.Division.{floor_div, ceil_div}
 use Rattle.ranges.specs.Fraction.{◌/F◌}
-use Rattle.ranges.specs.Quotient.{quotientLow, quotientHigh}
+use Rattle.ranges.specs.Quotient.{quotient_low, quotient_high}
 use Rattle.ranges.proofs.RingSolver.{ring, reify}
 use Rattle.ranges.proofs.LinearSolver.{zomega, says, ◌&◌}
 use Rattle.ranges.proofs.DivisionLaws.{floor-is, floor-only, ceil-is, ceil-only}
 use Rattle.segment.specs.declared.Site.{Site}
 use Rattle.segment.specs.declared.Weather.{Weather}
-use Rattle.segment.specs.Segment.{depthBase, depthOf, shoreBase}
-use Rattle.segment.specs.ExactSegment.{exactDepth}
-use Rattle.segment.specs.UniformDeficit.{largerDeficits, UniformDeficit}
+use Rattle.segment.specs.Segment.{depth_base, depth_of, shore_base}
+use Rattle.segment.specs.ExactSegment.{exact_depth}
+use Rattle.segment.specs.UniformDeficit.{larger_deficits, UniformDeficit}
 use Rattle.segment.proofs.SegmentRanges.{hundred, hundred-positive}
 
 -- ---- a numerator larger by a multiple of its divisor: over 100, by 57 times 100 for each k
@@ -25,39 +25,39 @@ either true = refl
 either false = refl
 
 module _ (n m k : ℤ) (e : m ≡ n +ℤ pos 5700 *ℤ k) where
-  floor-moved : floorDiv m (pos 100) ≡ floorDiv n (pos 100) +ℤ pos 57 *ℤ k
+  floor-moved : floor_div m (pos 100) ≡ floor_div n (pos 100) +ℤ pos 57 *ℤ k
   floor-moved =
-      let q = floorDiv n (pos 100) in
+      let q = floor_div n (pos 100) in
       let f = floor-is n (pos 100) hundred-positive.low in
       sym (floor-only m (pos 100) (q +ℤ pos 57 *ℤ k) hundred-positive.low (record {
         low = zomega (n ∷ m ∷ k ∷ q ∷ []) (e & f.low) (search says depth 20) (omega arith);
         high = zomega (n ∷ m ∷ k ∷ q ∷ []) (e & f.high) (search says depth 20) (omega arith);
       }))
 
-  ceil-moved : ceilDiv m (pos 100) ≡ ceilDiv n (pos 100) +ℤ pos 57 *ℤ k
+  ceil-moved : ceil_div m (pos 100) ≡ ceil_div n (pos 100) +ℤ pos 57 *ℤ k
   ceil-moved =
-      let q = ceilDiv n (pos 100) in
+      let q = ceil_div n (pos 100) in
       let f = ceil-is n (pos 100) hundred-positive.low in
       sym (ceil-only m (pos 100) (q +ℤ pos 57 *ℤ k) hundred-positive.low (record {
         low = zomega (n ∷ m ∷ k ∷ q ∷ []) (e & f.low) (search says depth 20) (omega arith);
         high = zomega (n ∷ m ∷ k ∷ q ∷ []) (e & f.high) (search says depth 20) (omega arith);
       }))
 
-  low-moved : quotientLow m hundred ≡ quotientLow n hundred +ℤ pos 57 *ℤ k
-  unfolding quotientLow
+  low-moved : quotient_low m hundred ≡ quotient_low n hundred +ℤ pos 57 *ℤ k
+  unfolding quotient_low
   low-moved = rw (either (lt_z m (pos 0)), either (lt_z n (pos 0))) floor-moved
 
-  high-moved : quotientHigh m hundred ≡ quotientHigh n hundred +ℤ pos 57 *ℤ k
-  unfolding quotientHigh
+  high-moved : quotient_high m hundred ≡ quotient_high n hundred +ℤ pos 57 *ℤ k
+  unfolding quotient_high
   high-moved = rw (either (lt_z m (pos 0)), either (lt_z n (pos 0))) ceil-moved
 
 -- ---- the law
 
-end_moved : (a : Site) (w : Weather) (z k : ℤ) → depthBase a (largerDeficits (pos 50 *ℤ k) w) +ℤ z ≡ (depthBase a w +ℤ z) +ℤ pos 5700 *ℤ k
+end_moved : (a : Site) (w : Weather) (z k : ℤ) → depth_base a (larger_deficits (pos 50 *ℤ k) w) +ℤ z ≡ (depth_base a w +ℤ z) +ℤ pos 5700 *ℤ k
 end_moved a w z k = let depths = a.depths in let level = w.level in let deficits = w.deficits in ring (depths ∷ level ∷ deficits ∷ z ∷ k ∷ []) (search reify depth 20) tt
 
 pub uniform-deficit : UniformDeficit
-unfolding shoreBase exactDepth depthOf ◌/F◌
+unfolding shore_base exact_depth depth_of ◌/F◌
 uniform-deficit = record {
   depth = λ a w e. let depths = a.depths in let level = w.level in let deficits = w.deficits in ring (depths ∷ level ∷ deficits ∷ e ∷ []) (search reify depth 20) tt;
   height = λ level deficit e. ring (level ∷ deficit ∷ e ∷ []) (search reify depth 20) tt;
@@ -72,6 +72,6 @@ uniform-deficit = record {
   };
   range = λ a w s k.
       ap₂ (λ (x y : ℤ). record { low = x; high = y })
-      (low-moved (depthBase a w +ℤ s.low) (depthBase a (largerDeficits (pos 50 *ℤ k) w) +ℤ s.low) k (end_moved a w s.low k))
-      (high-moved (depthBase a w +ℤ s.high) (depthBase a (largerDeficits (pos 50 *ℤ k) w) +ℤ s.high) k (end_moved a w s.high k));
+      (low-moved (depth_base a w +ℤ s.low) (depth_base a (larger_deficits (pos 50 *ℤ k) w) +ℤ s.low) k (end_moved a w s.low k))
+      (high-moved (depth_base a w +ℤ s.high) (depth_base a (larger_deficits (pos 50 *ℤ k) w) +ℤ s.high) k (end_moved a w s.high k));
 }

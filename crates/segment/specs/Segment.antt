@@ -2,9 +2,9 @@
 use Rattle.std.specs.Prelude.{Bool, true, false, cond, ℕ, ℤ, pos, ◌+ℤ◌, ◌*ℤ◌, ◌≤ℤ◌}
 use Rattle.ranges.specs.declared.Range.{Range}
 use Rattle.ranges.specs.Bounds.{Sized}
-use Rattle.ranges.specs.Quotient.{quotientOf}
-use Rattle.ranges.specs.Damped.{dampedOf}
-use Rattle.forcing.specs.Force.{forceOf}
+use Rattle.ranges.specs.Quotient.{quotient_of}
+use Rattle.ranges.specs.Damped.{damped_of}
+use Rattle.forcing.specs.Force.{force_of}
 use Rattle.records.specs.declared.Row.{Row}
 use Rattle.segment.specs.declared.Site.{Site}
 use Rattle.segment.specs.declared.Weather.{Weather}
@@ -13,70 +13,70 @@ use Rattle.segment.specs.declared.SegmentAnswer.{SegmentAnswer}
 use Rattle.segment.specs.declared.SegmentAnswer.TheVariants.{On, Stop}
 use Rattle.records.specs.declared.Kind.TheVariants.{Depth, Flux, Setup}
 use Rattle.records.specs.Refusals.{refusal}
-use Rattle.records.specs.Limits.{waterOk, fluxOk, setupOk}
-use Rattle.records.specs.Rows.{rowFlux}
+use Rattle.records.specs.Limits.{water_ok, flux_ok, setup_ok}
+use Rattle.records.specs.Rows.{row_flux}
 
 -- 500·(sum of the two depths) + 100·(initial + tide) + 57·(sum of the two deficits)
-abbrev pub depthBase : Site → Weather → ℤ
-depthBase a w = pos 500 *ℤ a.depths +ℤ pos 100 *ℤ w.level +ℤ pos 57 *ℤ w.deficits
+abbrev pub depth_base : Site → Weather → ℤ
+depth_base a w = pos 500 *ℤ a.depths +ℤ pos 100 *ℤ w.level +ℤ pos 57 *ℤ w.deficits
 
 -- 1. "Water depth: (.. + S)/100, rounded outward"
-unfoldable pub depthOf : Site → Weather → Range → Range
-depthOf a w s = quotientOf (record { low = depthBase a w +ℤ s.low; high = depthBase a w +ℤ s.high }) (record { low = pos 100; high = pos 100 })
+unfoldable pub depth_of : Site → Weather → Range → Range
+depth_of a w s = quotient_of (record { low = depth_base a w +ℤ s.low; high = depth_base a w +ℤ s.high }) (record { low = pos 100; high = pos 100 })
 
 -- κ·Δt
 abbrev pub drag : Site → Weather → ℤ
 drag a w = a.friction *ℤ w.seconds
 
 -- "the range of F is F rounded outward"
-abbrev pub segmentForce : Bool → Weather → Row → Range
-segmentForce first w v = forceOf first w.seconds v.cross w.cross
+abbrev pub segment_force : Bool → Weather → Row → Range
+segment_force first w v = force_of first w.seconds v.cross w.cross
 
 -- 2. "New flux (equation 12): (v + F)·100δ²/(100δ² + κ·Δt·|v|). .. In the first record the flux stays"
-unfoldable pub fluxOf : Bool → Site → Weather → Row → Range → Range
-fluxOf true a w v δ = rowFlux v
-fluxOf false a w v δ = dampedOf (drag a w) (rowFlux v) (segmentForce false w v) δ
+unfoldable pub flux_of : Bool → Site → Weather → Row → Range → Range
+flux_of true a w v δ = row_flux v
+flux_of false a w v δ = damped_of (drag a w) (row_flux v) (segment_force false w v) δ
 
 -- X·(2,748,816·s·v + 2,030·Y)
-abbrev pub gainTop : Site → Weather → ℤ → ℤ
-gainTop a w v = a.length *ℤ (pos 2748816 *ℤ a.sine *ℤ v +ℤ pos 2030 *ℤ w.onshore)
+abbrev pub gain_top : Site → Weather → ℤ → ℤ
+gain_top a w v = a.length *ℤ (pos 2748816 *ℤ a.sine *ℤ v +ℤ pos 2030 *ℤ w.onshore)
 
 -- 3. "Gain (equation 11; ..): X·(2,748,816·s·v + 2,030·Y)/(10⁹·δ)"
-unfoldable pub gainOf : Site → Weather → Range → Range → Range
-gainOf a w v δ = quotientOf (record { low = gainTop a w v.low; high = gainTop a w v.high }) (record { low = pos 1000000000 *ℤ δ.low; high = pos 1000000000 *ℤ δ.high })
+unfoldable pub gain_of : Site → Weather → Range → Range → Range
+gain_of a w v δ = quotient_of (record { low = gain_top a w v.low; high = gain_top a w v.high }) (record { low = pos 1000000000 *ℤ δ.low; high = pos 1000000000 *ℤ δ.high })
 
 -- 4. "S for the next segment: low plus low, high plus high"
-unfoldable pub nextSetup : Range → Range → Range
-nextSetup s g = record { low = s.low +ℤ g.low; high = s.high +ℤ g.high }
+unfoldable pub next_setup : Range → Range → Range
+next_setup s g = record { low = s.low +ℤ g.low; high = s.high +ℤ g.high }
 
 -- the ranges of a segment, in this order
-abbrev pub segmentDepth : Site → Weather → Range → Range
-segmentDepth a w s = depthOf a w s
+abbrev pub segment_depth : Site → Weather → Range → Range
+segment_depth a w s = depth_of a w s
 
-abbrev pub segmentFlux : Bool → Site → Weather → Row → Range → Range
-segmentFlux first a w v s = fluxOf first a w v (segmentDepth a w s)
+abbrev pub segment_flux : Bool → Site → Weather → Row → Range → Range
+segment_flux first a w v s = flux_of first a w v (segment_depth a w s)
 
-abbrev pub segmentGain : Bool → Site → Weather → Row → Range → Range
-segmentGain first a w v s = gainOf a w (segmentFlux first a w v s) (segmentDepth a w s)
+abbrev pub segment_gain : Bool → Site → Weather → Row → Range → Range
+segment_gain first a w v s = gain_of a w (segment_flux first a w v s) (segment_depth a w s)
 
-abbrev pub segmentSetup : Bool → Site → Weather → Row → Range → Range
-segmentSetup first a w v s = nextSetup s (segmentGain first a w v s)
+abbrev pub segment_setup : Bool → Site → Weather → Row → Range → Range
+segment_setup first a w v s = next_setup s (segment_gain first a w v s)
 
-abbrev pub legOf : Range → ℤ → Range → Leg
-legOf flux cross s = record { row = record { low = flux.low; high = flux.high; cross = cross }; setup = s }
+abbrev pub leg_of : Range → ℤ → Range → Leg
+leg_of flux cross s = record { row = record { low = flux.low; high = flux.high; cross = cross }; setup = s }
 
 -- "The march takes 10, 11 and 12 for one segment before it begins the next." `place` is the segment's number, from 1
-unfoldable pub segmentOf : ℕ → Bool → Site → Weather → Row → Range → SegmentAnswer
-segmentOf place first a w v s =
-    cond (waterOk (segmentDepth a w s))
-    (cond (fluxOk (segmentFlux first a w v s))
-    (cond (setupOk (segmentSetup first a w v s)) (On (legOf (segmentFlux first a w v s) w.cross (segmentSetup first a w v s))) (Stop (refusal Setup place)))
+unfoldable pub segment_of : ℕ → Bool → Site → Weather → Row → Range → SegmentAnswer
+segment_of place first a w v s =
+    cond (water_ok (segment_depth a w s))
+    (cond (flux_ok (segment_flux first a w v s))
+    (cond (setup_ok (segment_setup first a w v s)) (On (leg_of (segment_flux first a w v s) w.cross (segment_setup first a w v s))) (Stop (refusal Setup place)))
     (Stop (refusal Flux place)))
     (Stop (refusal Depth place))
 
 -- "Shore height: last S plus 100·(initial + tide) plus 114·(deficit at the shore point)": what it has beside S
-unfoldable pub shoreBase : ℤ → ℤ → ℤ
-shoreBase level deficit = pos 100 *ℤ level +ℤ pos 114 *ℤ deficit
+unfoldable pub shore_base : ℤ → ℤ → ℤ
+shore_base level deficit = pos 100 *ℤ level +ℤ pos 114 *ℤ deficit
 
 -- ---- what a segment is given: all within document 01's limits
 

@@ -2,8 +2,8 @@
 // What it is given lies within document 01's limits, so that no number on the way leaves 64 bits.
 ghost use Rattle.std.specs.Prelude.{◌≡◌, true, pos};
 ghost use Rattle.ranges.specs.Bounds.{Sized};
-ghost use Rattle.records.specs.Limits.{waterOk, fluxOk};
-ghost use Rattle.segment.specs.Segment.{GainIn, ShoreIn, shoreBase, depthOf, fluxOf, gainTop, gainOf, nextSetup, legOf, segmentOf, SiteIn, WeatherIn, RowIn, SetupIn, SegmentIn};
+ghost use Rattle.records.specs.Limits.{water_ok, flux_ok};
+ghost use Rattle.segment.specs.Segment.{GainIn, ShoreIn, shore_base, depth_of, flux_of, gain_top, gain_of, next_setup, leg_of, segment_of, SiteIn, WeatherIn, RowIn, SetupIn, SegmentIn};
 
 use super::{Leg, SegmentAnswer, Site, Weather};
 use ranges::Range;
@@ -37,7 +37,7 @@ const SHORE_DEFICIT: i64 = 114;
 // Water depth in 0.01 ft. `setup` is this record's, before the segment.
 pub fn depth_range(site: Site, weather: Weather, setup: Range) -> Range
     requires { (SiteIn site) × (WeatherIn weather) × (SetupIn setup) }
-    ensures { result ≡ depthOf site weather setup }
+    ensures { result ≡ depth_of site weather setup }
 {
     let base = HALF_DEPTHS * site.depths
         + LEVEL_UNIT * weather.level
@@ -55,8 +55,8 @@ pub fn depth_range(site: Site, weather: Weather, setup: Range) -> Range
 
 // The new flux in 0.01 ft²/s. In the first record the row's flux stays.
 pub fn flux_range(first: bool, site: Site, weather: Weather, row: Row, depth: Range) -> Range
-    requires { (SiteIn site) × (WeatherIn weather) × (RowIn row) × (waterOk depth ≡ true) }
-    ensures { result ≡ fluxOf first site weather row depth }
+    requires { (SiteIn site) × (WeatherIn weather) × (RowIn row) × (water_ok depth ≡ true) }
+    ensures { result ≡ flux_of first site weather row depth }
 {
     let old = Range {
         low: row.low,
@@ -72,15 +72,15 @@ pub fn flux_range(first: bool, site: Site, weather: Weather, row: Row, depth: Ra
 // The gain's numerator at one flux: X·(2,748,816·s·v + 2,030·Y).
 pub fn gain_top(site: Site, weather: Weather, flux: i64) -> i64
     requires { (SiteIn site) × (WeatherIn weather) × (Sized (pos 1000000) flux) }
-    ensures { result ≡ gainTop site weather flux }
+    ensures { result ≡ gain_top site weather flux }
 {
     site.length * (TURNING * site.sine * flux + WIND * weather.onshore)
 }
 
 // How much the setup grows over the segment, in 0.0001 ft. `flux` is the new one.
 pub fn gain_range(site: Site, weather: Weather, flux: Range, depth: Range) -> Range
-    requires { (SiteIn site) × (WeatherIn weather) × (fluxOk flux ≡ true) × (waterOk depth ≡ true) }
-    ensures { result ≡ gainOf site weather flux depth }
+    requires { (SiteIn site) × (WeatherIn weather) × (flux_ok flux ≡ true) × (water_ok depth ≡ true) }
+    ensures { result ≡ gain_of site weather flux depth }
 {
     let low = gain_top(site, weather, flux.low);
     let high = gain_top(site, weather, flux.high);
@@ -98,7 +98,7 @@ pub fn gain_range(site: Site, weather: Weather, flux: Range, depth: Range) -> Ra
 // The setup for the next segment: low plus low, high plus high.
 pub fn next_setup(setup: Range, gain: Range) -> Range
     requires { (SetupIn setup) × (GainIn gain) }
-    ensures { result ≡ nextSetup setup gain }
+    ensures { result ≡ next_setup setup gain }
 {
     Range {
         low: setup.low + gain.low,
@@ -108,7 +108,7 @@ pub fn next_setup(setup: Range, gain: Range) -> Range
 
 // What the segment leaves: its new row, with this record's cross stress, and the setup after it.
 pub fn leg_of(flux: Range, cross: i64, setup: Range) -> Leg
-    ensures { result ≡ legOf flux cross setup }
+    ensures { result ≡ leg_of flux cross setup }
 {
     Leg {
         row: Row {
@@ -130,7 +130,7 @@ pub fn march_segment(
     setup: Range,
 ) -> SegmentAnswer
     requires { SegmentIn site weather row setup }
-    ensures { result ≡ segmentOf place first site weather row setup }
+    ensures { result ≡ segment_of place first site weather row setup }
 {
     let depth = depth_range(site, weather, setup);
     if !range_inside(depth, WATER_LOW, WATER_HIGH) {
@@ -160,7 +160,7 @@ pub fn march_segment(
 // What the shore height has beside the last setup, of initial level plus tide and of the deficit at the shore point.
 pub fn shore_base(level: i64, deficit: i64) -> i64
     requires { ShoreIn level deficit }
-    ensures { result ≡ shoreBase level deficit }
+    ensures { result ≡ shore_base level deficit }
 {
     LEVEL_UNIT * level + SHORE_DEFICIT * deficit
 }

@@ -7,11 +7,11 @@ use Prim.Native.Nat.{ℕ, ◌+◌, ◌≤◌}
 use lib.ListN.{length}
 use lib.IntN.{ℤ}
 use borrow.Author.Tests.{le-leb}
-use Rattle.records.specs.Limits.{mostPoints}
+use Rattle.records.specs.Limits.{most_points}
 use Rattle.records.specs.Shapes.{Traverse}
-use Rattle.listing.specs.Lines.{namesLine, refusedLine}
-use Rattle.march.specs.Answers.{ToldOpen, opened, notOpened}
-use Rattle.march.specs.Checks.{openOf}
+use Rattle.listing.specs.Lines.{names_line, refused_line}
+use Rattle.march.specs.Answers.{ToldOpen, opened, not_opened}
+use Rattle.march.specs.Checks.{open_of}
 use Rattle.files.specs.declared.Flushed.{Flushed}
 use Rattle.files.specs.declared.Loaded.{Loaded}
 use Rattle.files.specs.declared.TraverseFile.{TraverseFile}
@@ -21,19 +21,19 @@ use Rattle.hydrograph.specs.declared.Run.{Run}
 use Rattle.hydrograph.specs.declared.Turn.{Turn}
 use Rattle.hydrograph.specs.declared.Turn.TheVariants as turn
 use Rattle.hydrograph.specs.declared.Turned.{Turned}
-use Rattle.hydrograph.specs.Turns.{lineRoom, saidOpen, beginOf, LeftTurn, leftTurn, printed, turnLeft, freshRun}
-use Rattle.surge.specs.Standing.{wentOut}
-use Rattle.surge.specs.Printed.{MarchesSome, beginOn, AfterNames, AfterBegin, Prints, AfterFile, Runs}
+use Rattle.hydrograph.specs.Turns.{line_room, said_open, begin_of, LeftTurn, left_turn, printed, turn_left, fresh_run}
+use Rattle.surge.specs.Standing.{went_out}
+use Rattle.surge.specs.Printed.{MarchesSome, begin_on, AfterNames, AfterBegin, Prints, AfterFile, Runs}
 use Rattle.surge.proofs.TurnEnds.{written-within}
 
-module _ (t : Traverse) (out : List ℕ) (room : lineRoom ≤ length out) where
+module _ (t : Traverse) (out : List ℕ) (room : line_room ≤ length out) where
   -- what is put, by what opening answered
-  abbrev pub begunBy : ToldOpen → LeftTurn
-  begunBy told = printed (saidOpen told (openOf mostPoints t).state []) freshRun [] [] out 0
+  abbrev pub begun_by : ToldOpen → LeftTurn
+  begun_by told = printed (said_open told (open_of most_points t).state []) fresh_run [] [] out 0
 
-  pub begin-is : beginOn t out ≡ begunBy (openOf mostPoints t).answer
-  unfolding beginOn turnLeft beginOf
-  begin-is = rw (le-leb (0 + lineRoom) (length out) (omega arith))
+  pub begin-is : begin_on t out ≡ begun_by (open_of most_points t).answer
+  unfolding begin_on turn_left begin_of
+  begin-is = rw (le-leb (0 + line_room) (length out) (omega arith))
 
   -- the cursor stands at the start, and the place is within the buffer
   abbrev pub Begun : LeftTurn → Turn → Type 0
@@ -42,35 +42,35 @@ module _ (t : Traverse) (out : List ℕ) (room : lineRoom ≤ length out) where
   Begun l turn.More = ⊥
   Begun l turn.Full = ⊥
 
-  pub begin-begun : (x : Turned) (out' : List ℕ) → leftTurn x [] [] out' ≡ beginOn t out → length out' ≡ length out → (k : Turn) → x.turn ≡ k → Begun (leftTurn x [] [] out') k
+  pub begin-begun : (x : Turned) (out' : List ℕ) → left_turn x [] [] out' ≡ begin_on t out → length out' ≡ length out → (k : Turn) → x.turn ≡ k → Begun (left_turn x [] [] out') k
   begin-begun x out' e n k f =
-      let g : leftTurn x [] [] out' ≡ begunBy (openOf mostPoints t).answer = e ∙ begin-is in
-      subst (Begun (leftTurn x [] [] out')) f
-      (subst (λ (l : LeftTurn). Begun l l.turn) (sym g) (by (openOf mostPoints t).answer (ap (λ (l : LeftTurn). length l.out) (sym g) ∙ n)))
+      let g : left_turn x [] [] out' ≡ begun_by (open_of most_points t).answer = e ∙ begin-is in
+      subst (Begun (left_turn x [] [] out')) f
+      (subst (λ (l : LeftTurn). Begun l l.turn) (sym g) (by (open_of most_points t).answer (ap (λ (l : LeftTurn). length l.out) (sym g) ∙ n)))
     where
-      by : (told : ToldOpen) → length (begunBy told).out ≡ length out → Begun (begunBy told) (begunBy told).turn
-      by opened q = (written-within namesLine 0 out (omega arith) q, omega arith)
-      by (notOpened number place) q = written-within (refusedLine number place) 0 out (omega arith) q
+      by : (told : ToldOpen) → length (begun_by told).out ≡ length out → Begun (begun_by told) (begun_by told).turn
+      by opened q = (written-within names_line 0 out (omega arith) q, omega arith)
+      by (not_opened number place) q = written-within (refused_line number place) 0 out (omega arith) q
 
   -- what was done, from the case of the answer
-  pub prints : (x : Turned) (out₁ : List ℕ) → leftTurn x [] [] out₁ ≡ beginOn t out → (k : Turn) → x.turn ≡ k → (wrote : Bool) (window : List ℕ) (numbers rows : List ℤ) (waits : ℕ) (window' : List ℕ) (numbers' rows' : List ℤ) (out' : List ℕ)
-      → AfterBegin t window numbers rows waits window' numbers' rows' out' k wrote (leftTurn x [] [] out₁) → Prints t window numbers rows out waits window' numbers' rows' out'
+  pub prints : (x : Turned) (out₁ : List ℕ) → left_turn x [] [] out₁ ≡ begin_on t out → (k : Turn) → x.turn ≡ k → (wrote : Bool) (window : List ℕ) (numbers rows : List ℤ) (waits : ℕ) (window' : List ℕ) (numbers' rows' : List ℤ) (out' : List ℕ)
+      → AfterBegin t window numbers rows waits window' numbers' rows' out' k wrote (left_turn x [] [] out₁) → Prints t window numbers rows out waits window' numbers' rows' out'
   prints x out₁ e k f wrote window numbers rows waits window' numbers' rows' out' m =
       record {
         wrote = wrote;
         after = subst (λ (l : LeftTurn). AfterBegin t window numbers rows waits window' numbers' rows' out' l.turn wrote l) e
-            (subst (λ (z : Turn). AfterBegin t window numbers rows waits window' numbers' rows' out' z wrote (leftTurn x [] [] out₁)) (sym f) m);
+            (subst (λ (z : Turn). AfterBegin t window numbers rows waits window' numbers' rows' out' z wrote (left_turn x [] [] out₁)) (sym f) m);
       }
 
 -- of what `begin` promises
-pub begun-told : (t : Traverse) (out : List ℕ) (x : Turned) (out' : List ℕ) → leftTurn x [] [] out' ≡ turnLeft (record { said = beginOf t []; numbers = [] }) freshRun [] [] out 0 → leftTurn x [] [] out' ≡ beginOn t out
-unfolding beginOn
+pub begun-told : (t : Traverse) (out : List ℕ) (x : Turned) (out' : List ℕ) → left_turn x [] [] out' ≡ turn_left (record { said = begin_of t []; numbers = [] }) fresh_run [] [] out 0 → left_turn x [] [] out' ≡ begin_on t out
+unfolding begin_on
 begun-told t out x out' e = e
 
 -- by what became of the names line, whose answer is known
 pub after-named : (t : Traverse) (window : List ℕ) (numbers rows : List ℤ) (waits : ℕ) (window' : List ℕ) (numbers' rows' : List ℤ) (out' : List ℕ) (answer known : Flushed) (run : Run) (out : List ℕ) → answer ≡ known
-    → AfterNames t window numbers rows waits window' numbers' rows' out' (wentOut known) run out → AfterNames t window numbers rows waits window' numbers' rows' out' (wentOut answer) run out
-after-named t window numbers rows waits window' numbers' rows' out' answer known run out e a = subst (λ (r : Flushed). AfterNames t window numbers rows waits window' numbers' rows' out' (wentOut r) run out) (sym e) a
+    → AfterNames t window numbers rows waits window' numbers' rows' out' (went_out known) run out → AfterNames t window numbers rows waits window' numbers' rows' out' (went_out answer) run out
+after-named t window numbers rows waits window' numbers' rows' out' answer known run out e a = subst (λ (r : Flushed). AfterNames t window numbers rows waits window' numbers' rows' out' (went_out r) run out) (sym e) a
 
 -- nothing waits, by any name
 pub from-nought : {t : Traverse} {run : Run} {used : ℕ} {window : List ℕ} {numbers rows : List ℤ} {out : List ℕ} {waits : ℕ} {window' : List ℕ} {numbers' rows' : List ℤ} {out' : List ℕ}

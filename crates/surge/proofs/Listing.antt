@@ -9,9 +9,9 @@ use lib.ListN.{length, take, get_or, replicate}
 use lib.Seq.{length-take-le}
 use lib.IntN.{ℤ, pos}
 use Rattle.records.specs.declared.Refusal.{Refusal}
-use Rattle.records.specs.Groups.{wholes, ofRow, groups, flat}
-use Rattle.records.specs.Limits.{mostPoints}
-use Rattle.records.specs.Rows.{freshRow}
+use Rattle.records.specs.Groups.{wholes, of_row, groups, flat}
+use Rattle.records.specs.Limits.{most_points}
+use Rattle.records.specs.Rows.{fresh_row}
 use Rattle.records.specs.declared.Row.{Row}
 use Rattle.records.specs.Shapes.{Traverse, count, traverse}
 use Rattle.records.proofs.GroupLaws.{groups-length}
@@ -21,15 +21,15 @@ use Rattle.reader.specs.declared.traverse.TraverseRead.{TraverseRead}
 use Rattle.reader.specs.declared.traverse.Whole.{Whole}
 use Rattle.reader.specs.declared.traverse.Whole.TheVariants as whole-read
 use Rattle.reader.specs.Lines.{Outcome, read, refused, Leaves, leaves}
-use Rattle.reader.specs.Traverse.{held, start, noHead, noPoints, restAt, traverseRead, traverseLeft, traverseBy, traverseOf}
-use Rattle.reader.specs.Storm.{recordSize, stormOf}
-use Rattle.listing.specs.Lines.{namesLine, refusedLine, failedLine}
+use Rattle.reader.specs.Traverse.{held, start, no_head, no_points, rest_at, traverse_read, traverse_left, traverse_by, traverse_of}
+use Rattle.reader.specs.Storm.{record_size, storm_of}
+use Rattle.listing.specs.Lines.{names_line, refused_line, failed_line}
 use Rattle.listing.specs.Put.{written}
-use Rattle.march.specs.Answers.{ToldOpen, opened, notOpened}
+use Rattle.march.specs.Answers.{ToldOpen, opened, not_opened}
 use Rattle.march.specs.Given.{segments}
-use Rattle.march.specs.Checks.{openOf}
-use Rattle.march.specs.March.{freshRowAt}
-use Rattle.march.specs.Demand3.{freshRows}
+use Rattle.march.specs.Checks.{open_of}
+use Rattle.march.specs.March.{fresh_row_at}
+use Rattle.march.specs.Demand3.{fresh_rows}
 use Rattle.files.specs.declared.Loaded.{Loaded}
 use Rattle.files.specs.declared.Loaded.TheVariants as loaded
 use Rattle.files.specs.declared.TraverseFile.{TraverseFile}
@@ -37,12 +37,12 @@ use Rattle.files.specs.TraverseFile.{Continues, Tells, HasPoints}
 use Rattle.files.specs.TraverseFile as files
 use Rattle.files.proofs.PointsRead.{loads-has}
 use Rattle.files.proofs.Reached.{file-tells}
-use Rattle.hydrograph.specs.Listing.{refusalLine, stormLines, afterOpening, afterTraverse, listingOf}
-use Rattle.hydrograph.specs.Turns.{LeftTurn, lineRoom}
-use Rattle.surge.specs.Standing.{noRows, Memory, memory}
-use Rattle.surge.specs.Printed.{textRead, handedOn, begunAt, MarchesSome, beginOn, AfterBegin, traverseIn, rowsIn, AfterFile}
-use Rattle.surge.specs.Listing.{How, whole, read-failed, cut_short, PrintedOf, howMarched, cameAfter, cameFrom, RunPrints}
-use Rattle.surge.proofs.Begun.{begunBy, begin-is}
+use Rattle.hydrograph.specs.Listing.{refusal_line, storm_lines, after_opening, after_traverse, listing_of}
+use Rattle.hydrograph.specs.Turns.{LeftTurn, line_room}
+use Rattle.surge.specs.Standing.{no_rows, Memory, memory}
+use Rattle.surge.specs.Printed.{text_read, handed_on, begun_at, MarchesSome, begin_on, AfterBegin, traverse_in, rows_in, AfterFile}
+use Rattle.surge.specs.Listing.{How, whole, read-failed, cut_short, PrintedOf, how_marched, came_after, came_from, RunPrints}
+use Rattle.surge.proofs.Begun.{begun_by, begin-is}
 use Rattle.surge.proofs.Turns.{take-written, turns-tell}
 
 -- ---- the rows that `main` lends are those of a fresh traverse
@@ -52,37 +52,37 @@ zeros zero m h = refl
 zeros (suc n) zero h = absurd (omega arith)
 zeros (suc n) (suc m) h = ap (λ (l : List ℤ). pos 0 ∷ l) (zeros n m (omega arith))
 
-flat-zeros : (rows : List Row) → ((i : ℕ) → get_or rows i freshRow ≡ freshRow) → flat ofRow rows ≡ replicate (3 * length rows) (pos 0)
+flat-zeros : (rows : List Row) → ((i : ℕ) → get_or rows i fresh_row ≡ fresh_row) → flat of_row rows ≡ replicate (3 * length rows) (pos 0)
 unfolding flat
 flat-zeros [] h = refl
 flat-zeros (v ∷ rows) h =
     let e : suc (suc (suc (3 * length rows))) ≡ 3 * suc (length rows) = omega arith in
-    subst (λ (k : ℕ). v.low ∷ v.high ∷ v.cross ∷ flat ofRow rows ≡ replicate k (pos 0)) e
-    (ap (λ (u : Row). u.low ∷ u.high ∷ u.cross ∷ flat ofRow rows) (h 0) ∙ ap (λ (l : List ℤ). pos 0 ∷ pos 0 ∷ pos 0 ∷ l) (flat-zeros rows (λ i. h (suc i))))
+    subst (λ (k : ℕ). v.low ∷ v.high ∷ v.cross ∷ flat of_row rows ≡ replicate k (pos 0)) e
+    (ap (λ (u : Row). u.low ∷ u.high ∷ u.cross ∷ flat of_row rows) (h 0) ∙ ap (λ (l : List ℤ). pos 0 ∷ pos 0 ∷ pos 0 ∷ l) (flat-zeros rows (λ i. h (suc i))))
 
 -- past a list's end its default stands, so one more of that changes nothing
-one_more : (l : List Row) (i : ℕ) → get_or (l ++ (freshRow ∷ [])) i freshRow ≡ get_or l i freshRow
+one_more : (l : List Row) (i : ℕ) → get_or (l ++ (fresh_row ∷ [])) i fresh_row ≡ get_or l i fresh_row
 one_more [] zero = refl
 one_more [] (suc i) = refl
 one_more (v ∷ l) zero = refl
 one_more (v ∷ l) (suc i) = one_more l i
 
-all-fresh : (t : Traverse) (n i : ℕ) → get_or (groups (freshRowAt t) n) i freshRow ≡ freshRow
+all-fresh : (t : Traverse) (n i : ℕ) → get_or (groups (fresh_row_at t) n) i fresh_row ≡ fresh_row
 unfolding groups
 all-fresh t zero i = refl
-all-fresh t (suc n) i = one_more (groups (freshRowAt t) n) i ∙ all-fresh t n i
+all-fresh t (suc n) i = one_more (groups (fresh_row_at t) n) i ∙ all-fresh t n i
 
-count-is : (file : TraverseFile) (points : List ℤ) → 2 * file.count ≤ length points → count (traverseIn file points) ≡ file.count
+count-is : (file : TraverseFile) (points : List ℤ) → 2 * file.count ≤ length points → count (traverse_in file points) ≡ file.count
 count-is file points b = ap (λ (k : ℕ). wholes 2 k) (length-take-le (2 * file.count) points b) ∙ wholes-times 2 file.count (omega arith)
 
-rows_are : (file : TraverseFile) (points : List ℤ) → 2 ≤ file.count → 2 * file.count ≤ length points → file.count ≤ 65 → take (rowsIn file) noRows ≡ freshRows (traverseIn file points)
+rows_are : (file : TraverseFile) (points : List ℤ) → 2 ≤ file.count → 2 * file.count ≤ length points → file.count ≤ 65 → take (rows_in file) no_rows ≡ fresh_rows (traverse_in file points)
 rows_are file points a b c =
-    let t = traverseIn file points in
+    let t = traverse_in file points in
     let n = count-is file points b in
-    zeros (rowsIn file) 192 (omega arith)
+    zeros (rows_in file) 192 (omega arith)
     ∙ ap (λ (k : ℕ). replicate (3 * (k - 1)) (pos 0)) (sym n)
-    ∙ ap (λ (k : ℕ). replicate (3 * k) (pos 0)) (sym (groups-length (freshRowAt t) (segments t)))
-    ∙ sym (flat-zeros (groups (freshRowAt t) (segments t)) (all-fresh t (segments t)))
+    ∙ ap (λ (k : ℕ). replicate (3 * k) (pos 0)) (sym (groups-length (fresh_row_at t) (segments t)))
+    ∙ sym (flat-zeros (groups (fresh_row_at t) (segments t)) (all-fresh t (segments t)))
 
 -- ---- what is printed of a listing, behind other bytes
 
@@ -91,7 +91,7 @@ behind whole first printed listing p = ap (λ (l : List ℕ). first ++ l) p
 behind read-failed first printed listing p =
     record {
       sound = first ++ p.sound;
-      line = ap (λ (l : List ℕ). first ++ l) p.line ∙ sym (append_assoc first p.sound failedLine);
+      line = ap (λ (l : List ℕ). first ++ l) p.line ∙ sym (append_assoc first p.sound failed_line);
       begins = record { rest = p.begins.rest; joined = append_assoc first p.sound p.begins.rest ∙ ap (λ (l : List ℕ). first ++ l) p.begins.joined };
     }
 behind cut_short first printed listing p = record { rest = p.rest; joined = append_assoc first printed p.rest ∙ ap (λ (l : List ℕ). first ++ l) p.joined }
@@ -103,35 +103,35 @@ tag : Whole → ℕ
 tag whole-read.Read = 0
 tag (whole-read.Refused refusal) = 1
 
-lineOf : Whole → List ℕ
-lineOf whole-read.Read = []
-lineOf (whole-read.Refused refusal) = refusalLine refusal
+line_of : Whole → List ℕ
+line_of whole-read.Read = []
+line_of (whole-read.Refused refusal) = refusal_line refusal
 
 -- the listing for a traverse
 abbrev opening : List ℕ → Traverse → List ℕ
-opening storm t = afterOpening (openOf mostPoints t).answer (openOf mostPoints t).state t (stormOf storm (count t))
+opening storm t = after_opening (open_of most_points t).answer (open_of most_points t).state t (storm_of storm (count t))
 
 module _ (s storm : List ℕ) (points : List ℤ) where
   numbers : List ℤ
-  numbers = (restAt s (held start noPoints) 0 0).numbers
+  numbers = (rest_at s (held start no_points) 0 0).numbers
 
-  listing-read : (file : TraverseFile) → traverseLeft s noPoints ≡ leaves (record { answer = whole-read.Read; head = file.head; count = file.count }) points → listingOf s storm ≡ opening storm (traverseIn file points)
-  unfolding listingOf traverseOf traverseLeft traverseRead tag
-  listing-read file e = go (restAt s (held start noPoints) 0 0).answer e
+  listing-read : (file : TraverseFile) → traverse_left s no_points ≡ leaves (record { answer = whole-read.Read; head = file.head; count = file.count }) points → listing_of s storm ≡ opening storm (traverse_in file points)
+  unfolding listing_of traverse_of traverse_left traverse_read tag
+  listing-read file e = go (rest_at s (held start no_points) 0 0).answer e
     where
-      go : (x : Outcome Known) → leaves (traverseRead x) (restAt s (held start noPoints) 0 0).numbers ≡ leaves (record { answer = whole-read.Read; head = file.head; count = file.count }) points
-          → afterTraverse (traverseBy x (restAt s (held start noPoints) 0 0).numbers) storm ≡ opening storm (traverseIn file points)
+      go : (x : Outcome Known) → leaves (traverse_read x) (rest_at s (held start no_points) 0 0).numbers ≡ leaves (record { answer = whole-read.Read; head = file.head; count = file.count }) points
+          → after_traverse (traverse_by x (rest_at s (held start no_points) 0 0).numbers) storm ≡ opening storm (traverse_in file points)
       go (read k at line) p = ap (λ (y : Leaves TraverseRead). opening storm (traverse y.answer.head (take (2 * y.answer.count) y.numbers))) p
       go (refused r) p = let z : ◌≡◌ {A = ℕ} 1 0 = ap (λ (y : Leaves TraverseRead). tag y.answer.answer) p in absurd (omega arith)
 
-  listing-refused : (r : Refusal) → traverseLeft s noPoints ≡ leaves (record { answer = whole-read.Refused r; head = noHead; count = 0 }) points → listingOf s storm ≡ refusalLine r
-  unfolding listingOf traverseOf traverseLeft traverseRead tag lineOf
-  listing-refused r e = go (restAt s (held start noPoints) 0 0).answer e
+  listing-refused : (r : Refusal) → traverse_left s no_points ≡ leaves (record { answer = whole-read.Refused r; head = no_head; count = 0 }) points → listing_of s storm ≡ refusal_line r
+  unfolding listing_of traverse_of traverse_left traverse_read tag line_of
+  listing-refused r e = go (rest_at s (held start no_points) 0 0).answer e
     where
-      go : (x : Outcome Known) → leaves (traverseRead x) (restAt s (held start noPoints) 0 0).numbers ≡ leaves (record { answer = whole-read.Refused r; head = noHead; count = 0 }) points
-          → afterTraverse (traverseBy x (restAt s (held start noPoints) 0 0).numbers) storm ≡ refusalLine r
+      go : (x : Outcome Known) → leaves (traverse_read x) (rest_at s (held start no_points) 0 0).numbers ≡ leaves (record { answer = whole-read.Refused r; head = no_head; count = 0 }) points
+          → after_traverse (traverse_by x (rest_at s (held start no_points) 0 0).numbers) storm ≡ refusal_line r
       go (read k at line) p = let z : ◌≡◌ {A = ℕ} 0 1 = ap (λ (y : Leaves TraverseRead). tag y.answer.answer) p in absurd (omega arith)
-      go (refused q) p = ap (λ (y : Leaves TraverseRead). lineOf y.answer.answer) p
+      go (refused q) p = ap (λ (y : Leaves TraverseRead). line_of y.answer.answer) p
 
 -- ---- the last write
 
@@ -140,64 +140,64 @@ put_alone : (line out : List ℕ) (waits : ℕ) (out' : List ℕ) → waits ≡ 
 put_alone line out waits out' w o = ap (λ (k : ℕ). take k out') w ∙ ap (take (0 + length line)) o ∙ take-written line 0 out (omega arith)
 
 -- reading the traverse failed
-failed-alone : (out : List ℕ) (waits : ℕ) (out' listing : List ℕ) → waits ≡ 0 + length failedLine → out' ≡ written failedLine 0 out → PrintedOf read-failed (take waits out') listing
-failed-alone out waits out' listing w o = record { sound = []; line = put_alone failedLine out waits out' w o; begins = record { rest = listing; joined = refl } }
+failed-alone : (out : List ℕ) (waits : ℕ) (out' listing : List ℕ) → waits ≡ 0 + length failed_line → out' ≡ written failed_line 0 out → PrintedOf read-failed (take waits out') listing
+failed-alone out waits out' listing w o = record { sound = []; line = put_alone failed_line out waits out' w o; begins = record { rest = listing; joined = refl } }
 
 -- ---- a traverse that was read
 
-module _ (t : Traverse) (window : List ℕ) (numbers rows : List ℤ) (out : List ℕ) (room : lineRoom ≤ length out) (waits : ℕ) (window' : List ℕ) (numbers' rows' : List ℤ) (out' : List ℕ)
-    (rows-fresh : rows ≡ freshRows t) (holds : recordSize (count t) ≤ length numbers) where
+module _ (t : Traverse) (window : List ℕ) (numbers rows : List ℤ) (out : List ℕ) (room : line_room ≤ length out) (waits : ℕ) (window' : List ℕ) (numbers' rows' : List ℤ) (out' : List ℕ)
+    (rows-fresh : rows ≡ fresh_rows t) (holds : record_size (count t) ≤ length numbers) where
   abbrev names : List ℕ
-  names = take (0 + length namesLine) (written namesLine 0 out)
+  names = take (0 + length names_line) (written names_line 0 out)
 
-  names-are : names ≡ namesLine
-  names-are = take-written namesLine 0 out (omega arith)
+  names-are : names ≡ names_line
+  names-are = take-written names_line 0 out (omega arith)
 
   abbrev lines : List ℕ → List ℕ
-  lines storm = stormLines t (openOf mostPoints t).state (freshRows t) (stormOf storm (count t))
+  lines storm = storm_lines t (open_of most_points t).state (fresh_rows t) (storm_of storm (count t))
 
   -- the names line was written, and then the turns came
-  module _ (m : MarchesSome t (begunBy t out room opened).run 0 window numbers rows (begunBy t out room opened).out waits window' numbers' rows' out') (e : List ℕ)
+  module _ (m : MarchesSome t (begun_by t out room opened).run 0 window numbers rows (begun_by t out room opened).out waits window' numbers' rows' out') (e : List ℕ)
       (c : Continues m.marches.standing.last e) where
     abbrev last : Memory
     last = memory m.marches.standing window' numbers' rows' out'
 
     abbrev handed : List ℕ
-    handed = handedOn t m.marches.earlier
+    handed = handed_on t m.marches.earlier
 
     abbrev storm : List ℕ
-    storm = textRead t m.marches.earlier (memory m.marches.standing window' numbers' rows' out') ++ e
+    storm = text_read t m.marches.earlier (memory m.marches.standing window' numbers' rows' out') ++ e
 
-    told : PrintedOf (howMarched t m.marches.earlier last) (handed ++ take m.marches.standing.used out') (lines storm)
+    told : PrintedOf (how_marched t m.marches.earlier last) (handed ++ take m.marches.standing.used out') (lines storm)
     told =
-        subst (λ (l : List ℤ). PrintedOf (howMarched t m.marches.earlier last) (handed ++ take m.marches.standing.used out') (stormLines t (openOf mostPoints t).state l (stormOf storm (count t)))) rows-fresh
-        (turns-tell t (memory (begunAt m.opened (begunBy t out room opened).run 0) window numbers rows (begunBy t out room opened).out) (record { place = refl; line = refl; none = refl; waits = omega arith; room = holds }) m.marches.earlier last m.marches.reached e c)
+        subst (λ (l : List ℤ). PrintedOf (how_marched t m.marches.earlier last) (handed ++ take m.marches.standing.used out') (storm_lines t (open_of most_points t).state l (storm_of storm (count t)))) rows-fresh
+        (turns-tell t (memory (begun_at m.opened (begun_by t out room opened).run 0) window numbers rows (begun_by t out room opened).out) (record { place = refl; line = refl; none = refl; waits = omega arith; room = holds }) m.marches.earlier last m.marches.reached e c)
 
     -- behind the names line
-    marched : PrintedOf (howMarched t m.marches.earlier last) ((names ++ handed) ++ take waits out') (namesLine ++ lines storm)
+    marched : PrintedOf (how_marched t m.marches.earlier last) ((names ++ handed) ++ take waits out') (names_line ++ lines storm)
     marched =
-        subst (λ (p : List ℕ). PrintedOf (howMarched t m.marches.earlier last) p (namesLine ++ lines storm))
-        (ap (λ (k : ℕ). namesLine ++ (handed ++ take k out')) (sym m.marches.waits-are) ∙ sym (append_assoc namesLine handed (take waits out')) ∙ ap (λ (l : List ℕ). (l ++ handed) ++ take waits out') (sym names-are))
-        (behind (howMarched t m.marches.earlier last) namesLine (handed ++ take m.marches.standing.used out') (lines storm) told)
+        subst (λ (p : List ℕ). PrintedOf (how_marched t m.marches.earlier last) p (names_line ++ lines storm))
+        (ap (λ (k : ℕ). names_line ++ (handed ++ take k out')) (sym m.marches.waits-are) ∙ sym (append_assoc names_line handed (take waits out')) ∙ ap (λ (l : List ℕ). (l ++ handed) ++ take waits out') (sym names-are))
+        (behind (how_marched t m.marches.earlier last) names_line (handed ++ take m.marches.standing.used out') (lines storm) told)
 
   -- by what opening answered
-  by-opening : (told : ToldOpen) (wrote : Bool) (after : AfterBegin t window numbers rows waits window' numbers' rows' out' (begunBy t out room told).turn wrote (begunBy t out room told)) (e : List ℕ)
-      → let c = cameAfter t window numbers rows waits window' numbers' rows' out' (begunBy t out room told).turn wrote (begunBy t out room told) after in
-      Continues c.last e → PrintedOf c.how (c.handed ++ take waits out') (afterOpening told (openOf mostPoints t).state t (stormOf (c.text ++ e) (count t)))
+  by-opening : (told : ToldOpen) (wrote : Bool) (after : AfterBegin t window numbers rows waits window' numbers' rows' out' (begun_by t out room told).turn wrote (begun_by t out room told)) (e : List ℕ)
+      → let c = came_after t window numbers rows waits window' numbers' rows' out' (begun_by t out room told).turn wrote (begun_by t out room told) after in
+      Continues c.last e → PrintedOf c.how (c.handed ++ take waits out') (after_opening told (open_of most_points t).state t (storm_of (c.text ++ e) (count t)))
   by-opening opened true after e c = marched after e c
   by-opening opened false after e c =
-      let none : names ++ take waits out' ≡ namesLine = ap (λ (k : ℕ). names ++ take k out') after.0 ∙ append-nil names ∙ names-are in
+      let none : names ++ take waits out' ≡ names_line = ap (λ (k : ℕ). names ++ take k out') after.0 ∙ append-nil names ∙ names-are in
       record { rest = lines e; joined = ap (λ (l : List ℕ). l ++ lines e) none }
-  by-opening (notOpened number place) wrote after e c = put_alone (refusedLine number place) out waits out' after.0 after.1
+  by-opening (not_opened number place) wrote after e c = put_alone (refused_line number place) out waits out' after.0 after.1
 
-  pub by-begin : (l : LeftTurn) → l ≡ begunBy t out room (openOf mostPoints t).answer → (wrote : Bool) (after : AfterBegin t window numbers rows waits window' numbers' rows' out' l.turn wrote l) (e : List ℕ)
-      → let c = cameAfter t window numbers rows waits window' numbers' rows' out' l.turn wrote l after in
+  pub by-begin : (l : LeftTurn) → l ≡ begun_by t out room (open_of most_points t).answer → (wrote : Bool) (after : AfterBegin t window numbers rows waits window' numbers' rows' out' l.turn wrote l) (e : List ℕ)
+      → let c = came_after t window numbers rows waits window' numbers' rows' out' l.turn wrote l after in
       Continues c.last e → PrintedOf c.how (c.handed ++ take waits out') (opening (c.text ++ e) t)
   by-begin l q =
       subst (λ (l : LeftTurn). (wrote : Bool) (after : AfterBegin t window numbers rows waits window' numbers' rows' out' l.turn wrote l) (e : List ℕ)
-      → let c = cameAfter t window numbers rows waits window' numbers' rows' out' l.turn wrote l after in
+      → let c = came_after t window numbers rows waits window' numbers' rows' out' l.turn wrote l after in
       Continues c.last e → PrintedOf c.how (c.handed ++ take waits out') (opening (c.text ++ e) t))
-      (sym q) (by-opening (openOf mostPoints t).answer)
+      (sym q) (by-opening (open_of most_points t).answer)
 
 -- ---- the run
 
@@ -209,20 +209,20 @@ run-prints window points numbers rows out r window' points' numbers' rows' out' 
     f = x.loads.opened
 
     s : List ℕ
-    s = files.textRead x.loads.loads.earlier x.loads.loads.at ++ e₁
+    s = files.text_read x.loads.loads.earlier x.loads.loads.at ++ e₁
 
     by : (k : Loaded) (after : AfterFile x.file points' x.window₁ numbers rows out x.waits window' numbers' rows' out' k x.rows₁) → Tells k x.file s points points' → HasPoints k x.file.count (length points')
-        → let c = cameFrom x.file points' x.window₁ numbers rows out x.waits window' numbers' rows' out' k x.rows₁ after in
-        Continues c.last e₂ → PrintedOf c.how (c.handed ++ take x.waits out') (listingOf s (c.text ++ e₂))
+        → let c = came_from x.file points' x.window₁ numbers rows out x.waits window' numbers' rows' out' k x.rows₁ after in
+        Continues c.last e₂ → PrintedOf c.how (c.handed ++ take x.waits out') (listing_of s (c.text ++ e₂))
     by loaded.Failed after told has c = failed-alone out x.waits out' _ after.0.waits-are after.0.out-is
     by (loaded.Refused refusal) after told has c =
-        put_alone (refusalLine refusal) out x.waits out' after.0.waits-are after.0.out-is
-        ∙ sym (listing-refused s e₂ points' refusal (ap (traverseLeft s) (sym lent.points-fresh) ∙ told))
+        put_alone (refusal_line refusal) out x.waits out' after.0.waits-are after.0.out-is
+        ∙ sym (listing-refused s e₂ points' refusal (ap (traverse_left s) (sym lent.points-fresh) ∙ told))
     by loaded.Read after told has c =
-        let t = traverseIn x.file points' in
+        let t = traverse_in x.file points' in
         let n = count-is x.file points' has.1 in
-        let came = cameFrom x.file points' x.window₁ numbers rows out x.waits window' numbers' rows' out' loaded.Read x.rows₁ after in
-        subst (PrintedOf came.how (came.handed ++ take x.waits out')) (sym (listing-read s (came.text ++ e₂) points' x.file (ap (traverseLeft s) (sym lent.points-fresh) ∙ told)))
-        (by-begin t x.window₁ numbers (take (rowsIn x.file) rows) out lent.out-holds x.waits window' numbers' x.rows₁ out'
-        (ap (take (rowsIn x.file)) lent.rows-fresh ∙ rows_are x.file points' has.0 has.1 has.2) (omega (arith, lent.record-holds, n, has.2))
-        (beginOn t out) (begin-is t out lent.out-holds) after.0.wrote after.0.after e₂ c)
+        let came = came_from x.file points' x.window₁ numbers rows out x.waits window' numbers' rows' out' loaded.Read x.rows₁ after in
+        subst (PrintedOf came.how (came.handed ++ take x.waits out')) (sym (listing-read s (came.text ++ e₂) points' x.file (ap (traverse_left s) (sym lent.points-fresh) ∙ told)))
+        (by-begin t x.window₁ numbers (take (rows_in x.file) rows) out lent.out-holds x.waits window' numbers' x.rows₁ out'
+        (ap (take (rows_in x.file)) lent.rows-fresh ∙ rows_are x.file points' has.0 has.1 has.2) (omega (arith, lent.record-holds, n, has.2))
+        (begin_on t out) (begin-is t out lent.out-holds) after.0.wrote after.0.after e₂ c)

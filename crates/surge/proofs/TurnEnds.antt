@@ -12,10 +12,10 @@ use lib.IntN.{ℤ}
 use borrow.Author.Tests.{leb-true, leb-false}
 use Rattle.records.specs.Shapes.{Traverse, count}
 use Rattle.listing.specs.declared.Put.TheVariants.{Next}
-use Rattle.listing.specs.Lines.{failedLine}
-use Rattle.listing.specs.Put.{afterPut, putOf, written}
+use Rattle.listing.specs.Lines.{failed_line}
+use Rattle.listing.specs.Put.{after_put, put_of, written}
 use Rattle.listing.proofs.Answer.{next-told}
-use Rattle.reader.specs.Storm.{recordSize, longestRecord}
+use Rattle.reader.specs.Storm.{record_size, longest_record}
 use Rattle.files.specs.declared.Filled.{Filled}
 use Rattle.files.specs.declared.Filled.TheVariants as filled
 use Rattle.files.specs.Filled.{Refilled}
@@ -24,14 +24,14 @@ use Rattle.hydrograph.specs.declared.Turn.{Turn}
 use Rattle.hydrograph.specs.declared.Turn.TheVariants as turn
 use Rattle.hydrograph.specs.declared.Run.{Run}
 use Rattle.hydrograph.specs.declared.Turned.{Turned}
-use Rattle.hydrograph.specs.Turns.{Said, more, reads, says, ends, quiet, Heard, turnHeard, lineRoom, LeftTurn, leftTurn, printed, turnLeft}
+use Rattle.hydrograph.specs.Turns.{Said, more, reads, says, ends, quiet, Heard, turn_heard, line_room, LeftTurn, left_turn, printed, turn_left}
 use Rattle.hydrograph.proofs.RecordRead.{turn-seen}
 use Rattle.hydrograph.proofs.Tells.{Advances, turn-advances}
 use Rattle.surge.specs.declared.Standing.{Standing}
-use Rattle.surge.specs.Standing.{PutsAt, Stands, standingWith, AfterRefill, Memory, turnOn, ReadFrom, ReadBy, Moves, Moved}
+use Rattle.surge.specs.Standing.{PutsAt, Stands, standing_with, AfterRefill, Memory, turn_on, ReadFrom, ReadBy, Moves, Moved}
 
 -- a line that was put
-pub puts-next : (line : List ℕ) (used : ℕ) (out : List ℕ) (k : ℕ) (out' : List ℕ) → afterPut (Next k) out' ≡ putOf line used out → PutsAt line used out k out'
+pub puts-next : (line : List ℕ) (used : ℕ) (out : List ℕ) (k : ℕ) (out' : List ℕ) → after_put (Next k) out' ≡ put_of line used out → PutsAt line used out k out'
 puts-next line used out k out' e = let h = next-told line used out k out' e in record { waits-are = h.place; within = omega (arith, h.within, h.long); out-is = h.buffer }
 
 -- ---- what is said, printed from a place of a window of so many bytes
@@ -39,7 +39,7 @@ puts-next line used out k out' e = let h = next-told line used out k out' e in r
 -- the place of a turn, in a buffer of so many bytes. Where it asks for more, the window has fewer than 3,575 bytes from the cursor on, and there is
 -- room for a line; where there is none, something waits
 abbrev pub Placed : ℕ → ℕ → ℕ → ℕ → Turn → Type 0
-Placed size room at used turn.More = (size < at + longestRecord) × (used + lineRoom ≤ room)
+Placed size room at used turn.More = (size < at + longest_record) × (used + line_room ≤ room)
 Placed size room at used (turn.Line k) = k ≤ room
 Placed size room at used (turn.End k) = k ≤ room
 Placed size room at used turn.Full = 0 < used
@@ -56,38 +56,38 @@ written-within bytes used out h e =
     omega (arith, length-drop (used + length bytes) out)
 
 module _ (size used : ℕ) (last : Bool) (run : Run) (numbers rows : List ℤ) (out : List ℕ) (h : run.cursor.at ≤ size) (u : used ≤ length out) where
-  printed-ends : (numbers' : List ℤ) (x : Said) → Advances size last run.cursor.at run.cursor.line x → used + lineRoom ≤ length out → length (printed x run numbers' rows out used).out ≡ length out →
+  printed-ends : (numbers' : List ℤ) (x : Said) → Advances size last run.cursor.at run.cursor.line x → used + line_room ≤ length out → length (printed x run numbers' rows out used).out ≡ length out →
       Ends size (length out) used (printed x run numbers' rows out used)
-  printed-ends numbers' more w l e = record { cursor = h; place = ((holds_not size last run.cursor.at longestRecord w).0, l) }
+  printed-ends numbers' more w l e = record { cursor = h; place = ((holds_not size last run.cursor.at longest_record w).0, l) }
   printed-ends numbers' (reads a k) w l e = record { cursor = w.1.1; place = u }
   printed-ends numbers' (says bytes a k st rows') w l e = record { cursor = w.1.1.1; place = written-within bytes used out u e }
   printed-ends numbers' (ends bytes) w l e = record { cursor = h; place = written-within bytes used out u e }
   printed-ends numbers' quiet w l e = record { cursor = h; place = u }
 
-  left-ends : (heard : Heard) → Advances size last run.cursor.at run.cursor.line heard.said → lineRoom ≤ length out → length (turnLeft heard run numbers rows out used).out ≡ length out →
-      Ends size (length out) used (turnLeft heard run numbers rows out used)
-  unfolding turnLeft
-  left-ends heard w r = go (leb (used + lineRoom) (length out)) refl
+  left-ends : (heard : Heard) → Advances size last run.cursor.at run.cursor.line heard.said → line_room ≤ length out → length (turn_left heard run numbers rows out used).out ≡ length out →
+      Ends size (length out) used (turn_left heard run numbers rows out used)
+  unfolding turn_left
+  left-ends heard w r = go (leb (used + line_room) (length out)) refl
     where
       full : LeftTurn
       full = record { turn = turn.Full; run = run; numbers = numbers; rows = rows; out = out }
 
-      go : (b : Bool) → leb (used + lineRoom) (length out) ≡ b → length (cond b (printed heard.said run heard.numbers rows out used) full).out ≡ length out →
+      go : (b : Bool) → leb (used + line_room) (length out) ≡ b → length (cond b (printed heard.said run heard.numbers rows out used) full).out ≡ length out →
           Ends size (length out) used (cond b (printed heard.said run heard.numbers rows out used) full)
-      go true f e = printed-ends heard.numbers heard.said w (leb-true (used + lineRoom) (length out) f) e
-      go false f e = record { cursor = h; place = omega (arith, leb-false (used + lineRoom) (length out) f) }
+      go true f e = printed-ends heard.numbers heard.said w (leb-true (used + line_room) (length out) f) e
+      go false f e = record { cursor = h; place = omega (arith, leb-false (used + line_room) (length out) f) }
 
 -- of what `storm_turn` promises
 module _ (t : Traverse) (a : Memory) (x : Turned) (numbers' rows' : List ℤ) (out' : List ℕ) where
   abbrev pub Told : Type 0
-  Told = leftTurn x numbers' rows' out' ≡ turnLeft (turnHeard t (take a.standing.have a.window) a.standing.last a.standing.run.cursor.at a.standing.run.cursor.line a.standing.run.state a.rows a.numbers) a.standing.run a.numbers a.rows a.out a.standing.used
+  Told = left_turn x numbers' rows' out' ≡ turn_left (turn_heard t (take a.standing.have a.window) a.standing.last a.standing.run.cursor.at a.standing.run.cursor.line a.standing.run.state a.rows a.numbers) a.standing.run a.numbers a.rows a.out a.standing.used
 
-  pub turn_is : Told → leftTurn x numbers' rows' out' ≡ turnOn t a
-  unfolding turnOn
+  pub turn_is : Told → left_turn x numbers' rows' out' ≡ turn_on t a
+  unfolding turn_on
   turn_is e = e
 
-  pub turn-stays : a.standing.have ≤ length a.window → a.standing.run.cursor.at ≤ a.standing.have → a.standing.used ≤ length a.out → lineRoom ≤ length a.out
-      → recordSize (count t) ≤ length a.numbers → length out' ≡ length a.out → Told
+  pub turn-stays : a.standing.have ≤ length a.window → a.standing.run.cursor.at ≤ a.standing.have → a.standing.used ≤ length a.out → line_room ≤ length a.out
+      → record_size (count t) ≤ length a.numbers → length out' ≡ length a.out → Told
       → (x.run.cursor.at ≤ a.standing.have) × Placed a.standing.have (length a.out) x.run.cursor.at a.standing.used x.turn
   turn-stays f h u r n k e =
       let s = a.standing in
@@ -99,19 +99,19 @@ module _ (t : Traverse) (a : Memory) (x : Turned) (numbers' rows' : List ℤ) (o
       subst (λ (n : ℕ). (x.run.cursor.at ≤ n) × Placed n (length a.out) x.run.cursor.at s.used x.turn) long (y.cursor, y.place)
 
   -- what was done, from the case of the answer
-  pub moved : Told → (k : Turn) → x.turn ≡ k → (b : Memory) → b.numbers ≡ numbers' → b.rows ≡ rows' → Moves k (leftTurn x numbers' rows' out') a b → Moved t a b
+  pub moved : Told → (k : Turn) → x.turn ≡ k → (b : Memory) → b.numbers ≡ numbers' → b.rows ≡ rows' → Moves k (left_turn x numbers' rows' out') a b → Moved t a b
   moved e k f b n r m =
       record {
         record-left = n ∙ ap (λ (l : LeftTurn). l.numbers) (turn_is e);
         rows_left = r ∙ ap (λ (l : LeftTurn). l.rows) (turn_is e);
-        moves = subst (λ (l : LeftTurn). Moves l.turn l a b) (turn_is e) (subst (λ (z : Turn). Moves z (leftTurn x numbers' rows' out') a b) (sym f) m);
+        moves = subst (λ (l : LeftTurn). Moves l.turn l a b) (turn_is e) (subst (λ (z : Turn). Moves z (left_turn x numbers' rows' out') a b) (sym f) m);
       }
 
 -- ---- what is done with the answer
 
 -- the same with whether it goes on said by the standing itself
-pub on_same : (x : Standing) (run : Run) (used : ℕ) (on : Bool) (y : Standing) → y ≡ standingWith x run used on → y ≡ standingWith x run used y.on
-on_same x run used on y e = e ∙ ap (standingWith x run used) (sym (ap (λ (z : Standing). z.on) e))
+pub on_same : (x : Standing) (run : Run) (used : ℕ) (on : Bool) (y : Standing) → y ≡ standing_with x run used on → y ≡ standing_with x run used y.on
+on_same x run used on y e = e ∙ ap (standing_with x run used) (sym (ap (λ (z : Standing). z.on) e))
 
 -- what was read, from the refill's answer
 pub read_by : (answer : Filled) (run : Run) (x y : Standing) (a b out out' : List ℕ) → Refilled answer a b run.cursor.at x.have → AfterRefill answer run x y out out' → ReadFrom run x y a b out out'
@@ -119,11 +119,11 @@ read_by (filled.Holds n last) run x y a b out out' h k = subst (λ (z : Standing
 read_by filled.Failed run x y a b out out' h k =
     subst (λ (on : Bool). ReadBy on run x y a b out out') (sym (ap (λ (z : Standing). z.on) k.0)) (record { same = k.0; window = h; line = k.1 })
 
-pub stands-with : (x : Standing) (run : Run) (k : ℕ) (on : Bool) (y : Standing) (window room : ℕ) → y ≡ standingWith x run k on → run.cursor.at ≤ x.have → x.have ≤ window → k ≤ room → Stands y window room
+pub stands-with : (x : Standing) (run : Run) (k : ℕ) (on : Bool) (y : Standing) (window room : ℕ) → y ≡ standing_with x run k on → run.cursor.at ≤ x.have → x.have ≤ window → k ≤ room → Stands y window room
 stands-with x run k on y window room e p h w = subst (λ (z : Standing). Stands z window room) (sym e) (record { place = p; held = h; waits = w })
 
 -- after more was read, or after a read that failed, for whose line there was room
-pub stands_read : (run : Run) (x y : Standing) (a b out out' : List ℕ) → ReadFrom run x y a b out out' → run.cursor.at ≤ x.have → x.have ≤ length b → x.used + lineRoom ≤ length out'
+pub stands_read : (run : Run) (x y : Standing) (a b out out' : List ℕ) → ReadFrom run x y a b out out' → run.cursor.at ≤ x.have → x.have ≤ length b → x.used + line_room ≤ length out'
     → Stands y (length b) (length out')
 stands_read run x y a b out out' r p h w = go y.on r
   where
@@ -133,4 +133,4 @@ stands_read run x y a b out out' r p h w = go y.on r
       held = f.0.window.within;
       waits = omega (arith, f.0.waits);
     }
-    go false f = stands-with x run (x.used + length failedLine) false y (length b) (length out') f.same p h (omega arith)
+    go false f = stands-with x run (x.used + length failed_line) false y (length b) (length out') f.same p h (omega arith)

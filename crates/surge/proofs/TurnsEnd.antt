@@ -11,19 +11,19 @@ use lib.Seq.{length-take-le}
 use lib.IntN.{ℤ}
 use borrow.Author.Tests.{eqb-true, eqb-false, eq-eqb, lt-ltb}
 use Rattle.records.specs.Shapes.{Traverse, count}
-use Rattle.reader.specs.Storm.{recordSize, longestRecord}
+use Rattle.reader.specs.Storm.{record_size, longest_record}
 use Rattle.files.specs.Chain.{Chain}
-use Rattle.files.specs.Filled.{readBehind}
+use Rattle.files.specs.Filled.{read_behind}
 use Rattle.files.proofs.Asks.{holds_not}
 use Rattle.files.proofs.Walked.{never}
 use Rattle.hydrograph.specs.declared.Run.{Run}
 use Rattle.hydrograph.specs.declared.Turn.TheVariants as turn
-use Rattle.hydrograph.specs.Turns.{Said, more, reads, says, ends, quiet, Heard, turnHeard, lineRoom, LeftTurn, printed, turnLeft}
+use Rattle.hydrograph.specs.Turns.{Said, more, reads, says, ends, quiet, Heard, turn_heard, line_room, LeftTurn, printed, turn_left}
 use Rattle.hydrograph.proofs.RecordRead.{turn-seen}
 use Rattle.hydrograph.proofs.Tells.{Advances, turn-advances}
 use Rattle.surge.specs.declared.Standing.{Standing}
-use Rattle.surge.specs.Standing.{Memory, memory, turnOn, standingWith, Waits, ReadBy, Moves, Moved}
-use Rattle.surge.specs.Printed.{Reached, readBy, textRead, begunAt}
+use Rattle.surge.specs.Standing.{Memory, memory, turn_on, standing_with, Waits, ReadBy, Moves, Moved}
+use Rattle.surge.specs.Printed.{Reached, read_by, text_read, begun_at}
 use Rattle.surge.specs.Listing.{Fresh, TurnsEnd, MarchEnds}
 use Rattle.surge.proofs.Turns.{told_at}
 
@@ -76,7 +76,7 @@ module _ (x : Standing) (place : x.run.cursor.at ≤ x.have) (start : x.run.curs
       omega (arith, start z)
 
   -- what waited was written
-  spends-full : 0 < x.used → (on : Bool) → Spends x 0 (standingWith x x.run 0 on)
+  spends-full : 0 < x.used → (on : Bool) → Spends x 0 (standing_with x x.run 0 on)
   unfolding flag
   spends-full u on e n w =
       let a : flag (eqb x.used 0) ≡ 0 = by (eqb x.used 0) refl in
@@ -105,9 +105,9 @@ module _ (x : Standing) (place : x.run.cursor.at ≤ x.have) (start : x.run.curs
 -- ---- by the turn's answer
 
 module _ (t : Traverse) (w b : Memory) (place : w.standing.run.cursor.at ≤ w.standing.have) (held : w.standing.have ≤ length w.window) (start : w.standing.run.cursor.line ≡ 0 → w.standing.run.cursor.at ≡ 0)
-    (room : recordSize (count t) ≤ length w.numbers) (on : b.standing.on ≡ true) where
+    (room : record_size (count t) ≤ length w.numbers) (on : b.standing.on ≡ true) where
   abbrev Spent : LeftTurn → Type 0
-  Spent l = Spends w.standing (length (readBy l.turn l w b)) b.standing
+  Spent l = Spends w.standing (length (read_by l.turn l w b)) b.standing
 
   not_last : (k : ℕ) (l : LeftTurn) → Waits k false l w b → ⊥
   not_last k l m = never (sym on ∙ ap (λ (z : Standing). z.on) m.same)
@@ -121,29 +121,29 @@ module _ (t : Traverse) (w b : Memory) (place : w.standing.run.cursor.at ≤ w.s
   by_said more numbers m g =
       let r = subst (λ (y : Bool). ReadBy y w.standing.run w.standing b.standing w.window b.window w.out b.out) on g in
       let h = r.0.window in
-      let got = readBehind (ahead w.standing) b.standing.have b.window in
+      let got = read_behind (ahead w.standing) b.standing.have b.window in
       let long : length got ≡ b.standing.have - ahead w.standing = length-drop (ahead w.standing) (take b.standing.have b.window) ∙ ap (λ (k : ℕ). k - ahead w.standing) (length-take-le b.standing.have b.window h.within) in
       subst (λ (y : Bool). Spends w.standing (length (cond y got [])) b.standing) (sym on)
       (subst (λ (k : ℕ). Spends w.standing k b.standing) (sym long)
-      (spends-more w.standing place start b.standing (holds_not w.standing.have w.standing.last w.standing.run.cursor.at longestRecord m).1
+      (spends-more w.standing place start b.standing (holds_not w.standing.have w.standing.last w.standing.run.cursor.at longest_record m).1
       (ap (λ (z : Run). z.cursor.at) r.0.same) (ap (λ (z : Run). z.cursor.line) r.0.same) r.0.waits h.least h.ended))
-  by_said (reads at line) numbers m g = subst (Spends w.standing 0) (sym g.same) (spends-names w.standing place start (standingWith w.standing (answer (reads at line) numbers).run w.standing.used true) refl refl refl m.0 m.1.0)
-  by_said (says bytes at line st rows) numbers m g = subst (Spends w.standing 0) (sym g.same) (spends-line w.standing place start (standingWith w.standing (answer (says bytes at line st rows) numbers).run (w.standing.used + length bytes) true) refl refl (m.0, m.1.1.0) m.1.0 m.1.1.1)
+  by_said (reads at line) numbers m g = subst (Spends w.standing 0) (sym g.same) (spends-names w.standing place start (standing_with w.standing (answer (reads at line) numbers).run w.standing.used true) refl refl refl m.0 m.1.0)
+  by_said (says bytes at line st rows) numbers m g = subst (Spends w.standing 0) (sym g.same) (spends-line w.standing place start (standing_with w.standing (answer (says bytes at line st rows) numbers).run (w.standing.used + length bytes) true) refl refl (m.0, m.1.1.0) m.1.0 m.1.1.1)
   by_said (ends bytes) numbers m g = absurd (not_last _ _ g)
   by_said quiet numbers m g = absurd (not_last _ _ g)
 
   abbrev full : LeftTurn
   full = record { turn = turn.Full; run = w.standing.run; numbers = w.numbers; rows = w.rows; out = w.out }
 
-  spent : Moved t w b → Spent (turnOn t w)
-  unfolding turnOn turnLeft
-  spent m = go (leb (w.standing.used + lineRoom) (length w.out)) m.moves
+  spent : Moved t w b → Spent (turn_on t w)
+  unfolding turn_on turn_left
+  spent m = go (leb (w.standing.used + line_room) (length w.out)) m.moves
     where
       text : List ℕ
       text = take w.standing.have w.window
 
       heard : Heard
-      heard = turnHeard t (take w.standing.have w.window) w.standing.last w.standing.run.cursor.at w.standing.run.cursor.line w.standing.run.state w.rows w.numbers
+      heard = turn_heard t (take w.standing.have w.window) w.standing.last w.standing.run.cursor.at w.standing.run.cursor.line w.standing.run.state w.rows w.numbers
 
       moves : Advances w.standing.have w.standing.last w.standing.run.cursor.at w.standing.run.cursor.line heard.said
       moves =
@@ -159,13 +159,13 @@ module _ (t : Traverse) (w b : Memory) (place : w.standing.run.cursor.at ≤ w.s
 -- ---- turn after turn
 
 module _ (t : Traverse) (a : Memory) (fresh : Fresh t a) where
-  within : (earlier : List Memory) (b : Memory) → Reached t a earlier b → b.standing.on ≡ true → Within (length earlier) (length (textRead t earlier b)) b.standing
-  unfolding Chain textRead
+  within : (earlier : List Memory) (b : Memory) → Reached t a earlier b → b.standing.on ≡ true → Within (length earlier) (length (text_read t earlier b)) b.standing
+  unfolding Chain text_read
   within [] b q on = subst (λ (v : Memory). Within 0 0 v.standing) (sym q) (omega (arith, fresh.none))
   within (w ∷ earlier) b q on =
       let h = told_at t a fresh earlier w q.1 q.0.0 in
-      let s = textRead t earlier w in
-      let got = readBy (turnOn t w).turn (turnOn t w) w b in
+      let s = text_read t earlier w in
+      let got = read_by (turn_on t w).turn (turn_on t w) w b in
       subst (λ (k : ℕ). Within (suc (length earlier)) k b.standing) (sym (length-append s got))
       (spent t w b h.place h.ending.held (λ z. omega (arith, h.start z)) h.room on q.0.1 (length earlier) (length s) (within earlier w q.1 q.0.0))
 
@@ -178,5 +178,5 @@ pub march-ends : MarchEnds
 march-ends opened t run used window numbers rows out waits window' numbers' rows' out' fresh m small = by m.standing.on refl
   where
     by : (on : Bool) → m.standing.on ≡ on → m.standing.on ≡ false
-    by true e = absurd (omega (arith, turns-end t (memory (begunAt opened run used) window numbers rows out) fresh m.earlier (memory m.standing window' numbers' rows' out') m.reached e, m.ended e))
+    by true e = absurd (omega (arith, turns-end t (memory (begun_at opened run used) window numbers rows out) fresh m.earlier (memory m.standing window' numbers' rows' out') m.reached e, m.ended e))
     by false e = e

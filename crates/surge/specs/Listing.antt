@@ -4,8 +4,8 @@
 -- what was printed is a beginning. A text that was not read to its end may go on in any way: what was handed over is said of each. Assumes nothing.
 use Rattle.std.specs.Prelude.{◌≡◌, Bool, true, false, List, [], ◌∷◌, ◌++◌, ℕ, ◌+◌, ◌*◌, ◌<◌, ◌≤◌, ◌^◌, length, take, ℤ}
 use Rattle.records.specs.Shapes.{Traverse, count}
-use Rattle.listing.specs.Lines.{failedLine}
-use Rattle.reader.specs.Storm.{recordSize, stormOf}
+use Rattle.listing.specs.Lines.{failed_line}
+use Rattle.reader.specs.Storm.{record_size, storm_of}
 use Rattle.files.specs.declared.Flushed.{Flushed}
 use Rattle.files.specs.declared.Loaded.{Loaded}
 use Rattle.files.specs.declared.Loaded.TheVariants as loaded
@@ -15,10 +15,10 @@ use Rattle.files.specs.TraverseFile as files
 use Rattle.hydrograph.specs.declared.Run.{Run}
 use Rattle.hydrograph.specs.declared.Turn.{Turn}
 use Rattle.hydrograph.specs.declared.Turn.TheVariants as turn
-use Rattle.hydrograph.specs.Listing.{stormLines, listingOf}
+use Rattle.hydrograph.specs.Listing.{storm_lines, listing_of}
 use Rattle.hydrograph.specs.Turns.{Begins, LeftTurn}
-use Rattle.surge.specs.Standing.{Lent, Memory, memory, turnOn}
-use Rattle.surge.specs.Printed.{Reached, textRead, handedOn, begunAt, Marches, MarchesSome, beginOn, AfterBegin, traverseIn, rowsIn, AfterFile, Runs}
+use Rattle.surge.specs.Standing.{Lent, Memory, memory, turn_on}
+use Rattle.surge.specs.Printed.{Reached, text_read, handed_on, begun_at, Marches, MarchesSome, begin_on, AfterBegin, traverse_in, rows_in, AfterFile, Runs}
 
 -- ---- how a run ended, and what it printed of a listing
 
@@ -31,7 +31,7 @@ pub data How : Type 0 where
 -- sound lines, and the line `failed`
 pub record FailedAfter (printed listing : List ℕ) : Type 0 where
   pub sound : List ℕ
-  pub line : printed ≡ sound ++ failedLine
+  pub line : printed ≡ sound ++ failed_line
   pub begins : Begins sound listing
 
 abbrev pub PrintedOf : How → List ℕ → List ℕ → Type 0
@@ -42,16 +42,16 @@ PrintedOf cut_short printed listing = Begins printed listing
 -- ---- turn after turn
 
 -- by the last turn, and whether the program would go on
-abbrev pub endedBy : Turn → Bool → How
-endedBy k true = cut_short
-endedBy turn.More false = read-failed
-endedBy (turn.Line k) false = cut_short
-endedBy (turn.End k) false = whole
-endedBy turn.Full false = cut_short
+abbrev pub ended_by : Turn → Bool → How
+ended_by k true = cut_short
+ended_by turn.More false = read-failed
+ended_by (turn.Line k) false = cut_short
+ended_by (turn.End k) false = whole
+ended_by turn.Full false = cut_short
 
-abbrev pub howMarched : Traverse → List Memory → Memory → How
-howMarched t [] b = cut_short
-howMarched t (w ∷ earlier) b = endedBy (turnOn t w).turn b.standing.on
+abbrev pub how_marched : Traverse → List Memory → Memory → How
+how_marched t [] b = cut_short
+how_marched t (w ∷ earlier) b = ended_by (turn_on t w).turn b.standing.on
 
 -- before the first turn: nothing was read, and there is room for a record
 pub record Fresh (t : Traverse) (a : Memory) : Type 0 where
@@ -59,30 +59,30 @@ pub record Fresh (t : Traverse) (a : Memory) : Type 0 where
   pub line : a.standing.run.cursor.line ≡ 0
   pub none : a.standing.have ≡ 0
   pub waits : a.standing.used ≤ length a.out
-  pub room : recordSize (count t) ≤ length a.numbers
+  pub room : record_size (count t) ≤ length a.numbers
 
 -- what waited at first, and then the storm's lines
-abbrev pub marchedLines : Traverse → Memory → List ℕ → List ℕ
-marchedLines t a storm = take a.standing.used a.out ++ stormLines t a.standing.run.state a.rows (stormOf storm (count t))
+abbrev pub marched_lines : Traverse → Memory → List ℕ → List ℕ
+marched_lines t a storm = take a.standing.used a.out ++ storm_lines t a.standing.run.state a.rows (storm_of storm (count t))
 
 -- what was handed over on the way, and what waits, is these lines of the text that was read, by how the turns ended
 abbrev pub TurnsTell : Type 0
 TurnsTell =
     (t : Traverse) (a : Memory) → Fresh t a → (earlier : List Memory) (b : Memory) → Reached t a earlier b → (e : List ℕ) → Continues b.standing.last e
-    → PrintedOf (howMarched t earlier b) (handedOn t earlier ++ take b.standing.used b.out) (marchedLines t a (textRead t earlier b ++ e))
+    → PrintedOf (how_marched t earlier b) (handed_on t earlier ++ take b.standing.used b.out) (marched_lines t a (text_read t earlier b ++ e))
 
 -- turns that go on are no more than four for each byte of the text that was read, and five
 abbrev pub TurnsEnd : Type 0
 TurnsEnd =
     (t : Traverse) (a : Memory) → Fresh t a → (earlier : List Memory) (b : Memory) → Reached t a earlier b → b.standing.on ≡ true
-    → length earlier ≤ 4 * length (textRead t earlier b) + 5
+    → length earlier ≤ 4 * length (text_read t earlier b) + 5
 
 -- so a march comes to its end by itself, and not by its count of turns, wherever fewer than 2⁵³ bytes were read
 abbrev pub MarchEnds : Type 0
 MarchEnds =
     (opened : Bool) (t : Traverse) (run : Run) (used : ℕ) (window : List ℕ) (numbers rows : List ℤ) (out : List ℕ) (waits : ℕ) (window' : List ℕ) (numbers' rows' : List ℤ) (out' : List ℕ)
-    → Fresh t (memory (begunAt opened run used) window numbers rows out) → (m : Marches opened t run used window numbers rows out waits window' numbers' rows' out')
-    → length (textRead t m.earlier (memory m.standing window' numbers' rows' out')) < 2 ^ 53 → m.standing.on ≡ false
+    → Fresh t (memory (begun_at opened run used) window numbers rows out) → (m : Marches opened t run used window numbers rows out waits window' numbers' rows' out')
+    → length (text_read t m.earlier (memory m.standing window' numbers' rows' out')) < 2 ^ 53 → m.standing.on ≡ false
 
 -- ---- a run
 
@@ -94,42 +94,42 @@ pub record Came : Type 0 where
   pub handed : List ℕ
 
 -- no storm was read
-abbrev pub cameTo : How → List ℕ → Came
-cameTo how handed = record { text = []; last = false; how = how; handed = handed }
+abbrev pub came_to : How → List ℕ → Came
+came_to how handed = record { text = []; last = false; how = how; handed = handed }
 
 module _ (t : Traverse) (window : List ℕ) (numbers rows : List ℤ) (waits : ℕ) (window' : List ℕ) (numbers' rows' : List ℤ) (out' : List ℕ) where
   -- by the turns, with the names line before them
-  abbrev pub cameBy : (names : List ℕ) (l : LeftTurn) → MarchesSome t l.run 0 window numbers rows l.out waits window' numbers' rows' out' → Came
-  cameBy names l m =
+  abbrev pub came_by : (names : List ℕ) (l : LeftTurn) → MarchesSome t l.run 0 window numbers rows l.out waits window' numbers' rows' out' → Came
+  came_by names l m =
       let b = memory m.marches.standing window' numbers' rows' out' in
       record {
-        text = textRead t m.marches.earlier b;
+        text = text_read t m.marches.earlier b;
         last = m.marches.standing.last;
-        how = howMarched t m.marches.earlier b;
-        handed = names ++ handedOn t m.marches.earlier;
+        how = how_marched t m.marches.earlier b;
+        handed = names ++ handed_on t m.marches.earlier;
       }
 
-  abbrev pub cameAfter : (k : Turn) (wrote : Bool) (l : LeftTurn) → AfterBegin t window numbers rows waits window' numbers' rows' out' k wrote l → Came
-  cameAfter (turn.Line k) true l m = cameBy (take k l.out) l m
-  cameAfter (turn.Line k) false l m = cameTo cut_short (take k l.out)
-  cameAfter (turn.End k) wrote l m = cameTo whole []
-  cameAfter turn.More wrote l m = cameTo cut_short []
-  cameAfter turn.Full wrote l m = cameTo cut_short []
+  abbrev pub came_after : (k : Turn) (wrote : Bool) (l : LeftTurn) → AfterBegin t window numbers rows waits window' numbers' rows' out' k wrote l → Came
+  came_after (turn.Line k) true l m = came_by (take k l.out) l m
+  came_after (turn.Line k) false l m = came_to cut_short (take k l.out)
+  came_after (turn.End k) wrote l m = came_to whole []
+  came_after turn.More wrote l m = came_to cut_short []
+  came_after turn.Full wrote l m = came_to cut_short []
 
 module _ (file : TraverseFile) (points : List ℤ) (window : List ℕ) (numbers rows : List ℤ) (out : List ℕ) (waits : ℕ) (window' : List ℕ) (numbers' rows' : List ℤ) (out' : List ℕ) where
-  abbrev pub cameFrom : (k : Loaded) (rows₁ : List ℤ) → AfterFile file points window numbers rows out waits window' numbers' rows' out' k rows₁ → Came
-  cameFrom loaded.Failed rows₁ a = cameTo read-failed []
-  cameFrom (loaded.Refused refusal) rows₁ a = cameTo whole []
-  cameFrom loaded.Read rows₁ a =
-      let t = traverseIn file points in
-      cameAfter t window numbers (take (rowsIn file) rows) waits window' numbers' rows₁ out' (beginOn t out).turn a.0.wrote (beginOn t out) a.0.after
+  abbrev pub came_from : (k : Loaded) (rows₁ : List ℤ) → AfterFile file points window numbers rows out waits window' numbers' rows' out' k rows₁ → Came
+  came_from loaded.Failed rows₁ a = came_to read-failed []
+  came_from (loaded.Refused refusal) rows₁ a = came_to whole []
+  came_from loaded.Read rows₁ a =
+      let t = traverse_in file points in
+      came_after t window numbers (take (rows_in file) rows) waits window' numbers' rows₁ out' (begin_on t out).turn a.0.wrote (begin_on t out) a.0.after
 
 -- every run of `main`'s, on whatever was read
 abbrev pub RunPrints : Type 0
 RunPrints =
     (window : List ℕ) (points numbers rows : List ℤ) (out : List ℕ) (r : Flushed) (window' : List ℕ) (points' numbers' rows' : List ℤ) (out' : List ℕ)
     → Lent (length window) points numbers rows (length out) → (x : Runs window points numbers rows out r window' points' numbers' rows' out')
-    → let c = cameFrom x.file points' x.window₁ numbers rows out x.waits window' numbers' rows' out' x.file.answer x.rows₁ x.after in
+    → let c = came_from x.file points' x.window₁ numbers rows out x.waits window' numbers' rows' out' x.file.answer x.rows₁ x.after in
     let f = x.loads.loads in
     (e₁ e₂ : List ℕ) → Continues f.at.last e₁ → Continues c.last e₂
-    → PrintedOf c.how (c.handed ++ take x.waits out') (listingOf (files.textRead f.earlier f.at ++ e₁) (c.text ++ e₂))
+    → PrintedOf c.how (c.handed ++ take x.waits out') (listing_of (files.text_read f.earlier f.at ++ e₁) (c.text ++ e₂))

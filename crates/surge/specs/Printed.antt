@@ -3,21 +3,21 @@
 -- (`Reached`), the storm (`Marches`), a traverse that was read (`Prints`), and the run (`Runs`, the promise of `surge::run`). Assumes nothing.
 use Rattle.std.specs.Prelude.{◌≡◌, Bool, true, false, cond, List, [], ◌∷◌, ◌++◌, ℕ, ◌-◌, ◌*◌, length, take, drop, not, ℤ}
 use Rattle.records.specs.Shapes.{Traverse, traverse}
-use Rattle.listing.specs.Lines.{failedLine}
+use Rattle.listing.specs.Lines.{failed_line}
 use Rattle.files.specs.declared.Flushed.{Flushed}
 use Rattle.files.specs.declared.Loaded.{Loaded}
 use Rattle.files.specs.declared.Loaded.TheVariants as loaded
 use Rattle.files.specs.declared.TraverseFile.{TraverseFile}
-use Rattle.files.specs.Chain.{Chain, mostTurns}
-use Rattle.files.specs.Filled.{readBehind, Flushes}
+use Rattle.files.specs.Chain.{Chain, most_turns}
+use Rattle.files.specs.Filled.{read_behind, Flushes}
 use Rattle.files.specs.TraverseFile.{LoadsSome}
 use Rattle.hydrograph.specs.declared.Run.{Run}
 use Rattle.hydrograph.specs.declared.Turn.{Turn}
 use Rattle.hydrograph.specs.declared.Turn.TheVariants as turn
-use Rattle.hydrograph.specs.Listing.{refusalLine}
-use Rattle.hydrograph.specs.Turns.{LeftTurn, turnLeft, freshRun, beginOf}
+use Rattle.hydrograph.specs.Listing.{refusal_line}
+use Rattle.hydrograph.specs.Turns.{LeftTurn, turn_left, fresh_run, begin_of}
 use Rattle.surge.specs.declared.Standing.{Standing}
-use Rattle.surge.specs.Standing.{PutsAt, Memory, memory, turnOn, Moved}
+use Rattle.surge.specs.Standing.{PutsAt, Memory, memory, turn_on, Moved}
 
 -- ---- turn after turn
 
@@ -30,40 +30,40 @@ abbrev pub Reached : Traverse → Memory → List Memory → Memory → Type 0
 Reached t = Chain (TurnMade t)
 
 -- the bytes that a turn read, and the text read on the way
-abbrev pub readBy : Turn → LeftTurn → Memory → Memory → List ℕ
-readBy turn.More l a b = cond b.standing.on (readBehind (a.standing.have - l.run.cursor.at) b.standing.have b.window) []
-readBy (turn.Line k) l a b = []
-readBy (turn.End k) l a b = []
-readBy turn.Full l a b = []
+abbrev pub read_by : Turn → LeftTurn → Memory → Memory → List ℕ
+read_by turn.More l a b = cond b.standing.on (read_behind (a.standing.have - l.run.cursor.at) b.standing.have b.window) []
+read_by (turn.Line k) l a b = []
+read_by (turn.End k) l a b = []
+read_by turn.Full l a b = []
 
-unfoldable pub textRead : Traverse → List Memory → Memory → List ℕ
-textRead t [] b = []
-textRead t (w ∷ earlier) b = textRead t earlier w ++ readBy (turnOn t w).turn (turnOn t w) w b
+unfoldable pub text_read : Traverse → List Memory → Memory → List ℕ
+text_read t [] b = []
+text_read t (w ∷ earlier) b = text_read t earlier w ++ read_by (turn_on t w).turn (turn_on t w) w b
 
 -- the bytes that a turn handed over to be written, and all that were on the way: where there was no room for a line, all that waited. A write
 -- that failed was the last: no turn comes after it, and nothing waits then (`Moves`)
-abbrev pub handedBy : Turn → Memory → List ℕ
-handedBy turn.Full a = take a.standing.used a.out
-handedBy turn.More a = []
-handedBy (turn.Line k) a = []
-handedBy (turn.End k) a = []
+abbrev pub handed_by : Turn → Memory → List ℕ
+handed_by turn.Full a = take a.standing.used a.out
+handed_by turn.More a = []
+handed_by (turn.Line k) a = []
+handed_by (turn.End k) a = []
 
-unfoldable pub handedOn : Traverse → List Memory → List ℕ
-handedOn t [] = []
-handedOn t (w ∷ earlier) = handedOn t earlier ++ handedBy (turnOn t w).turn w
+unfoldable pub handed_on : Traverse → List Memory → List ℕ
+handed_on t [] = []
+handed_on t (w ∷ earlier) = handed_on t earlier ++ handed_by (turn_on t w).turn w
 
 -- ---- a storm, from an empty window on
 
 -- a file that could not be opened has ended before a byte was read
-abbrev pub begunAt : Bool → Run → ℕ → Standing
-begunAt opened run used = record { run = run; have = 0; last = not opened; used = used; on = true }
+abbrev pub begun_at : Bool → Run → ℕ → Standing
+begun_at opened run used = record { run = run; have = 0; last = not opened; used = used; on = true }
 
 -- `waits` bytes wait at the end of the turns, which come to their end, or are 2⁵⁶
 pub record Marches (opened : Bool) (t : Traverse) (run : Run) (used : ℕ) (window : List ℕ) (numbers rows : List ℤ) (out : List ℕ) (waits : ℕ) (window' : List ℕ) (numbers' rows' : List ℤ) (out' : List ℕ) : Type 0 where
   pub earlier : List Memory
   pub standing : Standing
-  pub reached : Reached t (memory (begunAt opened run used) window numbers rows out) earlier (memory standing window' numbers' rows' out')
-  pub ended : standing.on ≡ true → length earlier ≡ mostTurns
+  pub reached : Reached t (memory (begun_at opened run used) window numbers rows out) earlier (memory standing window' numbers' rows' out')
+  pub ended : standing.on ≡ true → length earlier ≡ most_turns
   pub waits-are : waits ≡ standing.used
 
 -- the same of a file by its name: whether it opens is the system's
@@ -74,8 +74,8 @@ pub record MarchesSome (t : Traverse) (run : Run) (used : ℕ) (window : List �
 -- ---- a traverse that was read
 
 -- what `hydrograph` answers for it, and puts at the start of the output
-unfoldable pub beginOn : Traverse → List ℕ → LeftTurn
-beginOn t out = turnLeft (record { said = beginOf t []; numbers = [] }) freshRun [] [] out 0
+unfoldable pub begin_on : Traverse → List ℕ → LeftTurn
+begin_on t out = turn_left (record { said = begin_of t []; numbers = [] }) fresh_run [] [] out 0
 
 -- the output alone was touched
 pub record Untouched (window : List ℕ) (numbers rows : List ℤ) (window' : List ℕ) (numbers' rows' : List ℤ) : Type 0 where
@@ -97,23 +97,23 @@ module _ (t : Traverse) (window : List ℕ) (numbers rows : List ℤ) (waits : �
 
 pub record Prints (t : Traverse) (window : List ℕ) (numbers rows : List ℤ) (out : List ℕ) (waits : ℕ) (window' : List ℕ) (numbers' rows' : List ℤ) (out' : List ℕ) : Type 0 where
   pub wrote : Bool
-  pub after : AfterBegin t window numbers rows waits window' numbers' rows' out' (beginOn t out).turn wrote (beginOn t out)
+  pub after : AfterBegin t window numbers rows waits window' numbers' rows' out' (begin_on t out).turn wrote (begin_on t out)
 
 -- ---- the run
 
 -- the traverse of a file that was read, its rows, and these put back before the rows that it has not
-abbrev pub traverseIn : TraverseFile → List ℤ → Traverse
-traverseIn file points = traverse file.head (take (2 * file.count) points)
+abbrev pub traverse_in : TraverseFile → List ℤ → Traverse
+traverse_in file points = traverse file.head (take (2 * file.count) points)
 
-abbrev pub rowsIn : TraverseFile → ℕ
-rowsIn file = 3 * (file.count - 1)
+abbrev pub rows_in : TraverseFile → ℕ
+rows_in file = 3 * (file.count - 1)
 
 -- what waits at the end, by how reading the traverse ended
 module _ (file : TraverseFile) (points : List ℤ) (window : List ℕ) (numbers rows : List ℤ) (out : List ℕ) (waits : ℕ) (window' : List ℕ) (numbers' rows' : List ℤ) (out' : List ℕ) where
   abbrev pub AfterFile : Loaded → List ℤ → Type 0
-  AfterFile loaded.Failed rows₁ = PutsAt failedLine 0 out waits out' × Untouched window numbers rows window' numbers' rows'
-  AfterFile (loaded.Refused refusal) rows₁ = PutsAt (refusalLine refusal) 0 out waits out' × Untouched window numbers rows window' numbers' rows'
-  AfterFile loaded.Read rows₁ = Prints (traverseIn file points) window numbers (take (rowsIn file) rows) out waits window' numbers' rows₁ out' × (rows' ≡ rows₁ ++ drop (rowsIn file) rows)
+  AfterFile loaded.Failed rows₁ = PutsAt failed_line 0 out waits out' × Untouched window numbers rows window' numbers' rows'
+  AfterFile (loaded.Refused refusal) rows₁ = PutsAt (refusal_line refusal) 0 out waits out' × Untouched window numbers rows window' numbers' rows'
+  AfterFile loaded.Read rows₁ = Prints (traverse_in file points) window numbers (take (rows_in file) rows) out waits window' numbers' rows₁ out' × (rows' ≡ rows₁ ++ drop (rows_in file) rows)
 
 -- the answer r is that of writing what waits at the end
 pub record Runs (window : List ℕ) (points numbers rows : List ℤ) (out : List ℕ) (r : Flushed) (window' : List ℕ) (points' numbers' rows' : List ℤ) (out' : List ℕ) : Type 0 where

@@ -1,11 +1,11 @@
 -- How the program stands between two turns, with all that is lent, and what a turn does. Assumes nothing.
 use Rattle.std.specs.Prelude.{◌≡◌, Bool, true, false, List, ℕ, ◌+◌, ◌<◌, ◌≤◌, length, take, replicate, ℤ, pos}
-use Rattle.records.specs.Limits.{mostPoints}
+use Rattle.records.specs.Limits.{most_points}
 use Rattle.records.specs.Shapes.{Traverse, count}
-use Rattle.listing.specs.Lines.{failedLine}
+use Rattle.listing.specs.Lines.{failed_line}
 use Rattle.listing.specs.Put.{written}
-use Rattle.reader.specs.Traverse.{noPoints}
-use Rattle.reader.specs.Storm.{recordSize, longestRecord}
+use Rattle.reader.specs.Traverse.{no_points}
+use Rattle.reader.specs.Storm.{record_size, longest_record}
 use Rattle.files.specs.declared.Filled.{Filled}
 use Rattle.files.specs.declared.Filled.TheVariants as filled
 use Rattle.files.specs.declared.Flushed.{Flushed}
@@ -14,22 +14,22 @@ use Rattle.files.specs.Filled.{InFront, HeldWindow}
 use Rattle.hydrograph.specs.declared.Run.{Run}
 use Rattle.hydrograph.specs.declared.Turn.{Turn}
 use Rattle.hydrograph.specs.declared.Turn.TheVariants as turn
-use Rattle.hydrograph.specs.Turns.{LeftTurn, turnHeard, turnLeft, lineRoom}
+use Rattle.hydrograph.specs.Turns.{LeftTurn, turn_heard, turn_left, line_room}
 use Rattle.surge.specs.declared.Standing.{Standing}
 
 -- ---- what `main` lends
 
 -- the rows of 64 segments, all zero: those of a fresh traverse
-abbrev pub noRows : List ℤ
-noRows = replicate 192 (pos 0)
+abbrev pub no_rows : List ℤ
+no_rows = replicate 192 (pos 0)
 
 -- a window that holds the longest record, fresh points and rows, room for a record of 65 points, and for a line
 pub record Lent (window : ℕ) (points numbers rows : List ℤ) (out : ℕ) : Type 0 where
-  pub window-holds : longestRecord ≤ window
-  pub points-fresh : points ≡ noPoints
-  pub record-holds : recordSize mostPoints ≤ length numbers
-  pub rows-fresh : rows ≡ noRows
-  pub out-holds : lineRoom ≤ out
+  pub window-holds : longest_record ≤ window
+  pub points-fresh : points ≡ no_points
+  pub record-holds : record_size most_points ≤ length numbers
+  pub rows-fresh : rows ≡ no_rows
+  pub out-holds : line_room ≤ out
 
 -- ---- lines of the program's own
 
@@ -51,28 +51,28 @@ pub record Stands (x : Standing) (window room : ℕ) : Type 0 where
 pub record Starts (run : Run) (used : ℕ) (window : List ℕ) (t : Traverse) (numbers : List ℤ) (out : List ℕ) : Type 0 where
   pub place : run.cursor.at ≤ 0
   pub waits : used ≤ length out
-  pub window-holds : longestRecord ≤ length window
-  pub out-holds : lineRoom ≤ length out
-  pub record-holds : recordSize (count t) ≤ length numbers
+  pub window-holds : longest_record ≤ length window
+  pub out-holds : line_room ≤ length out
+  pub record-holds : record_size (count t) ≤ length numbers
 
 -- a run with its cursor at the front of the window
-abbrev pub frontOf : Run → Run
-frontOf run = record { cursor = record { at = 0; line = run.cursor.line }; state = run.state }
+abbrev pub front_of : Run → Run
+front_of run = record { cursor = record { at = 0; line = run.cursor.line }; state = run.state }
 
 -- the window as it is, with another run, so many bytes waiting, and whether it goes on
-abbrev pub standingWith : Standing → Run → ℕ → Bool → Standing
-standingWith x run used on = record { run = run; have = x.have; last = x.last; used = used; on = on }
+abbrev pub standing_with : Standing → Run → ℕ → Bool → Standing
+standing_with x run used on = record { run = run; have = x.have; last = x.last; used = used; on = on }
 
 -- what a refill's answer makes of it, and of the output: the run is at the window's front and goes on; or, where the read failed, the line that says
 -- so waits behind the others and no more comes
 abbrev pub AfterRefill : Filled → Run → Standing → Standing → List ℕ → List ℕ → Type 0
-AfterRefill (filled.Holds n last) run x y out out' = (y ≡ record { run = frontOf run; have = n; last = last; used = x.used; on = true }) × (out' ≡ out)
-AfterRefill filled.Failed run x y out out' = (y ≡ standingWith x run (x.used + length failedLine) false) × (out' ≡ written failedLine x.used out)
+AfterRefill (filled.Holds n last) run x y out out' = (y ≡ record { run = front_of run; have = n; last = last; used = x.used; on = true }) × (out' ≡ out)
+AfterRefill filled.Failed run x y out out' = (y ≡ standing_with x run (x.used + length failed_line) false) × (out' ≡ written failed_line x.used out)
 
 -- whether a write went out, and the program goes on
-abbrev pub wentOut : Flushed → Bool
-wentOut (flushed.Wrote n) = true
-wentOut flushed.Failed = false
+abbrev pub went_out : Flushed → Bool
+went_out (flushed.Wrote n) = true
+went_out flushed.Failed = false
 
 -- the program's memory between two turns: how it stands, the window's bytes, the numbers of a record, the rows, and the output's bytes
 pub record Memory : Type 0 where
@@ -88,22 +88,22 @@ memory x window numbers rows out = record { standing = x; window = window; numbe
 -- ---- one turn: a is the memory before it, b after it
 
 -- what `hydrograph` answers for the window's bytes, and leaves of what is lent
-unfoldable pub turnOn : Traverse → Memory → LeftTurn
-turnOn t a =
+unfoldable pub turn_on : Traverse → Memory → LeftTurn
+turn_on t a =
     let x = a.standing in
-    turnLeft (turnHeard t (take x.have a.window) x.last x.run.cursor.at x.run.cursor.line x.run.state a.rows a.numbers) x.run a.numbers a.rows a.out x.used
+    turn_left (turn_heard t (take x.have a.window) x.last x.run.cursor.at x.run.cursor.line x.run.state a.rows a.numbers) x.run a.numbers a.rows a.out x.used
 
 -- more of the text was read: the run stands at the front of the window b, which begins with the bytes that were left of the window a
 pub record Follows (run : Run) (x y : Standing) (a b : List ℕ) : Type 0 where
-  pub same : y.run ≡ frontOf run
+  pub same : y.run ≡ front_of run
   pub waits : y.used ≡ x.used
   pub window : HeldWindow a b run.cursor.at x.have y.have y.last
 
 -- the read failed: the line that says so waits behind the others, and no more comes
 pub record Fails (run : Run) (x y : Standing) (a b out out' : List ℕ) : Type 0 where
-  pub same : y ≡ standingWith x run (x.used + length failedLine) false
+  pub same : y ≡ standing_with x run (x.used + length failed_line) false
   pub window : InFront a b run.cursor.at x.have
-  pub line : out' ≡ written failedLine x.used out
+  pub line : out' ≡ written failed_line x.used out
 
 -- by whether it goes on
 abbrev pub ReadBy : Bool → Run → Standing → Standing → List ℕ → List ℕ → List ℕ → List ℕ → Type 0
@@ -115,7 +115,7 @@ ReadFrom run x y a b out out' = ReadBy y.on run x y a b out out'
 
 -- a line waits, or the last line does and no more comes: the window is as it was
 pub record Waits (k : ℕ) (on : Bool) (l : LeftTurn) (a b : Memory) : Type 0 where
-  pub same : b.standing ≡ standingWith a.standing l.run k on
+  pub same : b.standing ≡ standing_with a.standing l.run k on
   pub window : b.window ≡ a.window
   pub out : b.out ≡ l.out
 
@@ -128,6 +128,6 @@ Moves turn.Full l a b = (0 < a.standing.used) × Waits 0 b.standing.on l a b
 Moves turn.More l a b = ReadFrom l.run a.standing b.standing a.window b.window l.out b.out
 
 pub record Moved (t : Traverse) (a b : Memory) : Type 0 where
-  pub record-left : b.numbers ≡ (turnOn t a).numbers
-  pub rows_left : b.rows ≡ (turnOn t a).rows
-  pub moves : Moves (turnOn t a).turn (turnOn t a) a b
+  pub record-left : b.numbers ≡ (turn_on t a).numbers
+  pub rows_left : b.rows ≡ (turn_on t a).rows
+  pub moves : Moves (turn_on t a).turn (turn_on t a) a b

@@ -6,12 +6,12 @@
 
 ghost use Rattle.std.specs.Prelude.{◌≡◌, ◌+◌, ◌≤◌, length};
 ghost use Rattle.records.specs.Shapes.{traverse, count};
-ghost use Rattle.listing.specs.Lines.{failedLine};
-ghost use Rattle.reader.specs.Storm.{recordSize, longestRecord};
-ghost use Rattle.hydrograph.specs.Listing.{refusalLine};
-ghost use Rattle.hydrograph.specs.Turns.{lineRoom};
+ghost use Rattle.listing.specs.Lines.{failed_line};
+ghost use Rattle.reader.specs.Storm.{record_size, longest_record};
+ghost use Rattle.hydrograph.specs.Listing.{refusal_line};
+ghost use Rattle.hydrograph.specs.Turns.{line_room};
 ghost use Rattle.files.specs.Filled.{Refills, Flushes};
-ghost use Rattle.surge.specs.Standing.{Lent, PutsAt, Stands, Starts, frontOf, standingWith, AfterRefill, ReadFrom, wentOut, memory, Moved};
+ghost use Rattle.surge.specs.Standing.{Lent, PutsAt, Stands, Starts, front_of, standing_with, AfterRefill, ReadFrom, went_out, memory, Moved};
 ghost use Rattle.surge.specs.Printed.{Marches, AfterNames, Prints, Runs};
 
 use files::{Filled, Flushed, Loaded};
@@ -36,8 +36,8 @@ struct Standing {
 
 // The last line after a read that failed, behind what waits.
 fn put_failed(out: &mut [u8], used: usize) -> usize
-    requires { used + lineRoom ≤ length out.old }
-    ensures { PutsAt failedLine used out.old result out.new }
+    requires { used + line_room ≤ length out.old }
+    ensures { PutsAt failed_line used out.old result out.new }
 {
     match listing::put_failed(out, used) {
         Put::Next(k) => k,
@@ -48,8 +48,8 @@ fn put_failed(out: &mut [u8], used: usize) -> usize
 
 // A traverse text that was refused: its refusal alone.
 fn put_refused(out: &mut [u8], refusal: Refusal) -> usize
-    requires { lineRoom ≤ length out.old }
-    ensures { PutsAt (refusalLine refusal) 0 out.old result out.new }
+    requires { line_room ≤ length out.old }
+    ensures { PutsAt (refusal_line refusal) 0 out.old result out.new }
 {
     let place = refusal.place;
     match listing::put_refused(out, 0, refusal.number(), place as u64) {
@@ -63,7 +63,7 @@ fn put_refused(out: &mut [u8], refusal: Refusal) -> usize
 
 // The run with its cursor at the front of the window.
 fn at_front(run: Run) -> Run
-    ensures { result ≡ frontOf run }
+    ensures { result ≡ front_of run }
 {
     let line = run.cursor.line;
     let state = run.state;
@@ -75,7 +75,7 @@ fn at_front(run: Run) -> Run
 
 // So many bytes wait, with the window as it is.
 fn waiting(x: Standing, run: Run, used: usize, on: bool) -> Standing
-    ensures { result ≡ standingWith x run used on }
+    ensures { result ≡ standing_with x run used on }
 {
     Standing {
         run,
@@ -88,7 +88,7 @@ fn waiting(x: Standing, run: Run, used: usize, on: bool) -> Standing
 
 // After a refill the cursor is at the window's front; where the read failed, the line that says so waits behind the others and no more comes.
 fn after_refill(x: Standing, run: Run, answer: Filled, out: &mut [u8]) -> Standing
-    requires { x.used + lineRoom ≤ length out.old }
+    requires { x.used + line_room ≤ length out.old }
     ensures { AfterRefill answer run x result out.old out.new }
 {
     match answer {
@@ -115,7 +115,7 @@ fn refilled(
     run: Run,
     out: &mut [u8],
 ) -> Standing
-    requires { Refills run.cursor.at x.have (length buf.old) × (x.used + lineRoom ≤ length out.old) }
+    requires { Refills run.cursor.at x.have (length buf.old) × (x.used + line_room ≤ length out.old) }
     ensures { ReadFrom run x result buf.old buf.new out.old out.new }
 {
     let cursor = run.cursor;
@@ -126,7 +126,7 @@ fn refilled(
 // Nothing waits after a write of what waited; where it failed, no more comes.
 fn after_write(x: Standing, run: Run, answer: Flushed) -> Standing
     requires { Flushes answer x.used }
-    ensures { result ≡ standingWith x run 0 (wentOut answer) }
+    ensures { result ≡ standing_with x run 0 (went_out answer) }
 {
     match answer {
         Flushed::Failed => waiting(x, run, 0, false),
@@ -137,7 +137,7 @@ fn after_write(x: Standing, run: Run, answer: Flushed) -> Standing
 // What waits is written, and the turn is made again with the whole buffer.
 fn emptied(rt: &HostRuntime, out: &[u8], x: Standing, run: Run) -> Standing
     requires { x.used ≤ length out.now }
-    ensures { result ≡ standingWith x run 0 result.on }
+    ensures { result ≡ standing_with x run 0 result.on }
 {
     let answer = files::flush(rt, out, x.used);
     after_write(x, run, answer)
@@ -155,7 +155,7 @@ fn turn(
     rows: &mut [i64],
     out: &mut [u8],
 ) -> Standing
-    requires { Stands x (length buf.old) (length out.old) × ((longestRecord ≤ length buf.old) × ((lineRoom ≤ length out.old) × (recordSize (count (traverse head points.now)) ≤ length numbers.old))) }
+    requires { Stands x (length buf.old) (length out.old) × ((longest_record ≤ length buf.old) × ((line_room ≤ length out.old) × (record_size (count (traverse head points.now)) ≤ length numbers.old))) }
     ensures { Stands result (length buf.new) (length out.new) × Moved (traverse head points.now) (memory x buf.old numbers.old rows.old out.old) (memory result buf.new numbers.new rows.new out.new) }
 {
     let have = x.have;
@@ -233,7 +233,7 @@ fn print_storm(
     named: Flushed,
 ) -> usize
     requires { Flushes named used × Starts run used buf.old (traverse head points.now) numbers.old out.old }
-    ensures { (result ≤ length out.new) × AfterNames (traverse head points.now) buf.old numbers.old rows.old result buf.new numbers.new rows.new out.new (wentOut named) run out.old }
+    ensures { (result ≤ length out.new) × AfterNames (traverse head points.now) buf.old numbers.old rows.old result buf.new numbers.new rows.new out.new (went_out named) run out.old }
 {
     match named {
         Flushed::Failed => 0,
@@ -267,7 +267,7 @@ fn print_run(
     rows: &mut [i64],
     out: &mut [u8],
 ) -> usize
-    requires { (longestRecord ≤ length buf.old) × ((lineRoom ≤ length out.old) × (recordSize (count (traverse head points.now)) ≤ length numbers.old)) }
+    requires { (longest_record ≤ length buf.old) × ((line_room ≤ length out.old) × (record_size (count (traverse head points.now)) ≤ length numbers.old)) }
     ensures { (result ≤ length out.new) × Prints (traverse head points.now) buf.old numbers.old rows.old out.old result buf.new numbers.new rows.new out.new }
 {
     let begun = hydrograph::begin(head, points, out, 0);

@@ -6,19 +6,19 @@ use native.Mathlib.Omega.{arith}
 use Prim.Native.Nat.{ℕ, zero, suc, ◌*◌, ◌≤◌}
 use lib.ListN.{length}
 use lib.IntN.{ℤ}
-use Rattle.records.specs.Groups.{stationCount}
-use Rattle.records.specs.Limits.{mostPoints}
+use Rattle.records.specs.Groups.{station_count}
+use Rattle.records.specs.Limits.{most_points}
 use Rattle.records.specs.Shapes.{traverse}
 use Rattle.records.proofs.GroupLaws.{wholes-fit}
 use Rattle.march.specs.Given.{given}
 use Rattle.march.proofs.Places.{open-place, take-place}
-use Rattle.lent.specs.Numbers.{notZero, stateOf, stateNumbers}
+use Rattle.lent.specs.Numbers.{not_zero, state_of, state_numbers}
 use Rattle.lent.proofs.Again.{whole-place}
-use Rattle.surge_c.specs.Rows.{numbersFrom, rowsFrom}
+use Rattle.surge_c.specs.Rows.{numbers_from, rows_from}
 use Rattle.surge_c.specs.Again.{RowsAgain, StateAgain, Fitting, OpenPlaceWhole, TakePlaceWhole}
 use Rattle.surge_c.proofs.RowLaws.{rows_back, count-is}
 
-numbers-back : (l : List ℤ) (n : ℕ) → length l ≡ 3 * n → numbersFrom (rowsFrom l) ≡ l
+numbers-back : (l : List ℤ) (n : ℕ) → length l ≡ 3 * n → numbers_from (rows_from l) ≡ l
 numbers-back [] n e = refl
 numbers-back (a ∷ []) n e = absurd (omega arith)
 numbers-back (a ∷ b ∷ []) n e = absurd (omega arith)
@@ -29,22 +29,22 @@ pub rows-again : RowsAgain
 rows-again = record { count = count-is; same = rows_back; back = numbers-back }
 
 pub state-again : StateAgain
-unfolding notZero
+unfolding not_zero
 state-again st = by st.started refl
   where
-    by : (t : Bool) → st.started ≡ t → stateOf (stateNumbers st) ≡ st
+    by : (t : Bool) → st.started ≡ t → state_of (state_numbers st) ≡ st
     by true e = rw e
     by false e = rw e
 
 -- points of two numbers are no more than half of 2^64
-count_at : (l : List ℤ) → Fitting l → stationCount l ≤ 9223372036854775807
-count_at l h = let f : 2 * stationCount l ≤ length l = wholes-fit 2 (length l) in omega arith
+count_at : (l : List ℤ) → Fitting l → station_count l ≤ 9223372036854775807
+count_at l h = let f : 2 * station_count l ≤ length l = wholes-fit 2 (length l) in omega arith
 
 below : {a b c : ℕ} → a ≤ b → b ≤ c → a ≤ c
 below h g = omega (arith, h, g)
 
 pub open-place-whole : OpenPlaceWhole
-open-place-whole head points number place h e = whole-place place (below (open-place mostPoints (traverse head points) number place e) (count_at points h))
+open-place-whole head points number place h e = whole-place place (below (open-place most_points (traverse head points) number place e) (count_at points h))
 
 pub take-place-whole : TakePlaceWhole
-take-place-whole call points storm rows setup number place h e = whole-place place (below (take-place (given mostPoints call points storm rows setup) number place e) (count_at points h))
+take-place-whole call points storm rows setup number place h e = whole-place place (below (take-place (given most_points call points storm rows setup) number place e) (count_at points h))

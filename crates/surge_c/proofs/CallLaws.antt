@@ -10,51 +10,51 @@ use lib.Dec.{leb}
 use lib.ListN.{length, replicate}
 use lib.IntN.{ℤ, pos}
 use Rattle.records.specs.declared.Row.{Row}
-use Rattle.surge_c.specs.Rows.{numbersFrom, rowsFrom, laid, backed, movedRows}
-use Rattle.lent.specs.Calls.{LeftNumbers, leftNumbers}
-use Rattle.surge_c.specs.Calls.{LeftRows, leftRows}
+use Rattle.surge_c.specs.Rows.{numbers_from, rows_from, laid, backed, moved_rows}
+use Rattle.lent.specs.Calls.{LeftNumbers, left_numbers}
+use Rattle.surge_c.specs.Calls.{LeftRows, left_rows}
 use Rattle.surge_c.proofs.RowLaws.{past, laid-all, backed-all, backed-laid, numbers-length, rows_back}
 
 abbrev pub zeros : List ℤ
 zeros = replicate 192 (pos 0)
 
-abbrev pub withNumbers : LeftNumbers → List ℤ → LeftNumbers
-withNumbers x l = leftNumbers x.number x.state l x.setup x.answer
+abbrev pub with_numbers : LeftNumbers → List ℤ → LeftNumbers
+with_numbers x l = left_numbers x.number x.state l x.setup x.answer
 
 -- what was left as numbers, with rows made of them
-abbrev pub inRows : LeftNumbers → LeftRows
-inRows x = leftRows x.number x.state (rowsFrom x.numbers) x.setup x.answer
+abbrev pub in_rows : LeftNumbers → LeftRows
+in_rows x = left_rows x.number x.state (rows_from x.numbers) x.setup x.answer
 
 -- what a call on n rows reads and writes of the numbers
 pub record Framed (F : ℕ → List ℤ → LeftNumbers) : Type 0 where
-  pub few : (n : ℕ) (l more : List ℤ) → n ≤ 64 → length l ≡ 3 * n → F n (l ++ more) ≡ withNumbers (F n l) ((F n l).numbers ++ more)
+  pub few : (n : ℕ) (l more : List ℤ) → n ≤ 64 → length l ≡ 3 * n → F n (l ++ more) ≡ with_numbers (F n l) ((F n l).numbers ++ more)
   pub long : (n : ℕ) (l : List ℤ) → n ≤ 64 → length l ≡ 3 * n → length (F n l).numbers ≡ 3 * n
-  pub many : (n : ℕ) (l k : List ℤ) → 64 < n → F n l ≡ withNumbers (F n k) l
+  pub many : (n : ℕ) (l k : List ℤ) → 64 < n → F n l ≡ with_numbers (F n k) l
 
 module _ (F : ℕ → List ℤ → LeftNumbers) (framed : Framed F) (rows : List Row) where
   -- what was left as numbers, with m rows made of them
   abbrev put_back : ℕ → LeftNumbers → LeftRows
-  put_back m x = leftRows x.number x.state (backed m x.numbers rows) x.setup x.answer
+  put_back m x = left_rows x.number x.state (backed m x.numbers rows) x.setup x.answer
 
-  moved : put_back (movedRows (length rows)) (F (length rows) (laid (movedRows (length rows)) rows zeros)) ≡ inRows (F (length rows) (numbersFrom rows))
+  moved : put_back (moved_rows (length rows)) (F (length rows) (laid (moved_rows (length rows)) rows zeros)) ≡ in_rows (F (length rows) (numbers_from rows))
   moved = by (leb (length rows) 64) refl
     where
       x : LeftNumbers
-      x = F (length rows) (numbersFrom rows)
+      x = F (length rows) (numbers_from rows)
 
-      by : (small : Bool) → leb (length rows) 64 ≡ small → put_back (movedRows (length rows)) (F (length rows) (laid (movedRows (length rows)) rows zeros)) ≡ inRows x
+      by : (small : Bool) → leb (length rows) 64 ≡ small → put_back (moved_rows (length rows)) (F (length rows) (laid (moved_rows (length rows)) rows zeros)) ≡ in_rows x
       by true e =
           let h : length rows ≤ 64 = leb-true (length rows) 64 e in
-          let all : movedRows (length rows) ≡ length rows = omega (arith, h) in
-          rw (all, laid-all rows zeros, framed.few (length rows) (numbersFrom rows) (past rows zeros) h (numbers-length rows))
-          (ap (λ (l : List Row). leftRows x.number x.state l x.setup x.answer) (backed-all rows x.numbers (past rows zeros) (framed.long (length rows) (numbersFrom rows) h (numbers-length rows))))
+          let all : moved_rows (length rows) ≡ length rows = omega (arith, h) in
+          rw (all, laid-all rows zeros, framed.few (length rows) (numbers_from rows) (past rows zeros) h (numbers-length rows))
+          (ap (λ (l : List Row). left_rows x.number x.state l x.setup x.answer) (backed-all rows x.numbers (past rows zeros) (framed.long (length rows) (numbers_from rows) h (numbers-length rows))))
       by false e =
-          let m : ℕ = movedRows (length rows) in
-          let x₁ : F (length rows) (laid m rows zeros) ≡ withNumbers x (laid m rows zeros) = framed.many (length rows) (laid m rows zeros) (numbersFrom rows) (leb-false (length rows) 64 e) in
-          let x₂ : x ≡ withNumbers x (numbersFrom rows) = framed.many (length rows) (numbersFrom rows) (numbersFrom rows) (leb-false (length rows) 64 e) in
-          ap (put_back m) x₁ ∙ ap (λ (l : List Row). leftRows x.number x.state l x.setup x.answer) (backed-laid m rows zeros ∙ sym (rows_back rows)) ∙ sym (ap inRows x₂)
+          let m : ℕ = moved_rows (length rows) in
+          let x₁ : F (length rows) (laid m rows zeros) ≡ with_numbers x (laid m rows zeros) = framed.many (length rows) (laid m rows zeros) (numbers_from rows) (leb-false (length rows) 64 e) in
+          let x₂ : x ≡ with_numbers x (numbers_from rows) = framed.many (length rows) (numbers_from rows) (numbers_from rows) (leb-false (length rows) 64 e) in
+          ap (put_back m) x₁ ∙ ap (λ (l : List Row). left_rows x.number x.state l x.setup x.answer) (backed-laid m rows zeros ∙ sym (rows_back rows)) ∙ sym (ap in_rows x₂)
 
   -- what a call says, from what the call on numbers said
-  pub call-said : (m : ℕ) → m ≡ movedRows (length rows) → (r : ℕ) (state numbers setup answer : List ℤ) → leftNumbers r state numbers setup answer ≡ F (length rows) (laid m rows zeros)
-      → leftRows r state (backed m numbers rows) setup answer ≡ inRows (F (length rows) (numbersFrom rows))
+  pub call-said : (m : ℕ) → m ≡ moved_rows (length rows) → (r : ℕ) (state numbers setup answer : List ℤ) → left_numbers r state numbers setup answer ≡ F (length rows) (laid m rows zeros)
+      → left_rows r state (backed m numbers rows) setup answer ≡ in_rows (F (length rows) (numbers_from rows))
   call-said m m-is r state numbers setup answer e = ap (put_back m) e ∙ rw m-is moved

@@ -7,87 +7,87 @@ use lib.ListN.{length, length-map}
 use lib.IntN.{ℤ}
 use Rattle.records.specs.declared.Head.{Head}
 use Rattle.records.specs.declared.Row.{Row}
-use Rattle.records.specs.Limits.{mostPoints}
-use Rattle.records.specs.Groups.{ofRow, groups}
+use Rattle.records.specs.Limits.{most_points}
+use Rattle.records.specs.Groups.{of_row, groups}
 use Rattle.records.specs.Shapes.{Traverse, traverse, count}
 use Rattle.records.proofs.GroupLaws.{groups-length, flat-length}
 use Rattle.march.specs.declared.State.{State}
 use Rattle.march.specs.Answers.{Told, accepted, refused}
 use Rattle.march.specs.Given.{Given, segments}
-use Rattle.march.specs.Checks.{openOf}
-use Rattle.march.specs.March.{freshRowAt}
-use Rattle.march.specs.Take.{takeOf}
+use Rattle.march.specs.Checks.{open_of}
+use Rattle.march.specs.March.{fresh_row_at}
+use Rattle.march.specs.Take.{take_of}
 use Rattle.march.specs.Take as march
-use Rattle.march.specs.Exact.{Exact, exactFresh}
-use Rattle.march.specs.Demand3.{calledWith, called, CallSound, AllSound, freshRows}
+use Rattle.march.specs.Exact.{Exact, exact_fresh}
+use Rattle.march.specs.Demand3.{called_with, called, CallSound, AllSound, fresh_rows}
 use Rattle.march.proofs.Demand3.{demand3}
 use Rattle.march.proofs.TakeLaws.{rows_long}
-use Rattle.lent.specs.Numbers.{stateNumbers, buffersOk}
-use Rattle.lent.specs.Again.{headLeft, pointsLeft, recordLeft}
+use Rattle.lent.specs.Numbers.{state_numbers, buffers_ok}
+use Rattle.lent.specs.Again.{head_left, points_left, record_left}
 use Rattle.lent.proofs.Again.{open-again, traverse-again, storm-again}
-use Rattle.surge_c.specs.Rows.{rowsFrom}
-use Rattle.surge_c.specs.Calls.{LeftRows, afterTaken, takeCall, Takes}
+use Rattle.surge_c.specs.Rows.{rows_from}
+use Rattle.surge_c.specs.Calls.{LeftRows, after_taken, take_call, Takes}
 use Rattle.surge_c.specs.Demand3.{LentCall, brought, AllKept, AllTold, LentDemand3, taking, TextDemand3}
 use Rattle.surge_c.proofs.Again.{rows-again, state-again}
 
 module _ (head : Head) (points : List ℤ) where
   -- a call that keeps its promise, on numbers that the march's list has
   call-told : (st : State) (l : List ℤ) (k : ℕ) → length l ≡ 3 * k → (c : LentCall) → length c.answer ≡ 3
-      → Takes head.latitude head.friction head.initial points c.seconds c.tide c.storm (stateNumbers st) (rowsFrom l) c.setup c.answer c.left
-      → let x = called mostPoints (traverse head points) st l (brought c) in c.left ≡ afterTaken x.answer x (stateNumbers st) (rowsFrom l)
-  unfolding takeCall buffersOk
+      → Takes head.latitude head.friction head.initial points c.seconds c.tide c.storm (state_numbers st) (rows_from l) c.setup c.answer c.left
+      → let x = called most_points (traverse head points) st l (brought c) in c.left ≡ after_taken x.answer x (state_numbers st) (rows_from l)
+  unfolding take_call buffers_ok
   call-told st l k long c three e = e ∙ rw (three, state-again st, rows-again.back l k long)
 
   -- what it leaves is what the march's next call has
-  next : (told : Told) (g : Given) (x : Exact) (w : march.Left) → CallSound told g x w → let a = afterTaken told w (stateNumbers g.state) (rowsFrom g.rows) in
-      (a.state ≡ stateNumbers w.state) × (a.rows ≡ rowsFrom w.rows)
+  next : (told : Told) (g : Given) (x : Exact) (w : march.Left) → CallSound told g x w → let a = after_taken told w (state_numbers g.state) (rows_from g.rows) in
+      (a.state ≡ state_numbers w.state) × (a.rows ≡ rows_from w.rows)
   next (accepted elapsed low high) g x w s = (refl, refl)
-  next (refused number place) g x w s = (ap stateNumbers (sym s.same-state), ap rowsFrom (sym s.same_rows))
+  next (refused number place) g x w s = (ap state_numbers (sym s.same-state), ap rows_from (sym s.same_rows))
 
-  carried : (st : State) (l : List ℤ) (k : ℕ) (x : Exact) (calls : List LentCall) → length l ≡ 3 * k → AllKept head points (stateNumbers st) (rowsFrom l) calls
-      → AllSound mostPoints (traverse head points) st l x (map brought calls) → AllTold head points st l calls
+  carried : (st : State) (l : List ℤ) (k : ℕ) (x : Exact) (calls : List LentCall) → length l ≡ 3 * k → AllKept head points (state_numbers st) (rows_from l) calls
+      → AllSound most_points (traverse head points) st l x (map brought calls) → AllTold head points st l calls
   unfolding AllKept AllTold AllSound
   carried st l k x [] long kept sound = tt
   carried st l k x (c ∷ calls) long kept sound = (here, carried w.state w.rows k _ calls (rows_long g ∙ long) (lent-next kept.1.1) sound.1)
     where
       g : Given
-      g = calledWith mostPoints (traverse head points) st l (brought c)
+      g = called_with most_points (traverse head points) st l (brought c)
 
       w : march.Left
-      w = takeOf g
+      w = take_of g
 
-      here : c.left ≡ afterTaken w.answer w (stateNumbers st) (rowsFrom l)
+      here : c.left ≡ after_taken w.answer w (state_numbers st) (rows_from l)
       here = call-told st l k long c kept.0 kept.1.0
 
-      after : ((afterTaken w.answer w (stateNumbers st) (rowsFrom l)).state ≡ stateNumbers w.state) × ((afterTaken w.answer w (stateNumbers st) (rowsFrom l)).rows ≡ rowsFrom w.rows)
+      after : ((after_taken w.answer w (state_numbers st) (rows_from l)).state ≡ state_numbers w.state) × ((after_taken w.answer w (state_numbers st) (rows_from l)).rows ≡ rows_from w.rows)
       after = next w.answer g x w sound.0
 
-      lent-next : AllKept head points c.left.state c.left.rows calls → AllKept head points (stateNumbers w.state) (rowsFrom w.rows) calls
+      lent-next : AllKept head points c.left.state c.left.rows calls → AllKept head points (state_numbers w.state) (rows_from w.rows) calls
       lent-next all =
-          subst (λ (s : List ℤ). AllKept head points s (rowsFrom w.rows) calls) (ap (λ (z : LeftRows). z.state) here ∙ after.0)
+          subst (λ (s : List ℤ). AllKept head points s (rows_from w.rows) calls) (ap (λ (z : LeftRows). z.state) here ∙ after.0)
           (subst (λ (rs : List Row). AllKept head points c.left.state rs calls) (ap (λ (z : LeftRows). z.rows) here ∙ after.1) all)
 
-rows-fresh : (t : Traverse) → length (freshRows t) ≡ 3 * segments t
-rows-fresh t = flat-length 3 ofRow (groups (freshRowAt t) (segments t)) (λ v. refl) ∙ ap (λ (n : ℕ). 3 * n) (groups-length (freshRowAt t) (segments t))
+rows-fresh : (t : Traverse) → length (fresh_rows t) ≡ 3 * segments t
+rows-fresh t = flat-length 3 of_row (groups (fresh_row_at t) (segments t)) (λ v. refl) ∙ ap (λ (n : ℕ). 3 * n) (groups-length (fresh_row_at t) (segments t))
 
 pub lent-demand3 : LentDemand3
 lent-demand3 head points x calls kept =
     let t = traverse head points in
     let o = open-again head points x in
-    let sound = demand3 mostPoints t o.0 (map brought calls) in
-    (carried head points (openOf mostPoints t).state (freshRows t) (segments t) exactFresh calls (rows-fresh t) (rw o.1 at kept) sound, sound)
+    let sound = demand3 most_points t o.0 (map brought calls) in
+    (carried head points (open_of most_points t).state (fresh_rows t) (segments t) exact_fresh calls (rows-fresh t) (rw o.1 at kept) sound, sound)
 
 -- ---- the same of texts
 
 pub text-demand3 : TextDemand3
 text-demand3 traverse-text storm-text short r nought x steps all kept =
-    let n = count (traverse (headLeft r.left) (pointsLeft r.left)) in
+    let n = count (traverse (head_left r.left) (points_left r.left)) in
     let s = storm-again storm-text short n (map (λ s. s.reading) steps) all in
-    let d = lent-demand3 (headLeft r.left) (pointsLeft r.left) x (map (taking n) steps) kept in
+    let d = lent-demand3 (head_left r.left) (points_left r.left) x (map (taking n) steps) kept in
     record {
       traverse-is = (traverse-again traverse-text r).accepted nought;
       read-are = s;
-      taken-are = sym (map-map (λ c. recordLeft n c.left) (λ s. s.reading) steps) ∙ s.begun ∙ rw (length-map steps (λ s. s.reading));
+      taken-are = sym (map-map (λ c. record_left n c.left) (λ s. s.reading) steps) ∙ s.begun ∙ rw (length-map steps (λ s. s.reading));
       told = d.0;
       sound = rw (map-map brought (taking n) steps) at d.1;
     }

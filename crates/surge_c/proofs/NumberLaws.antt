@@ -12,8 +12,8 @@ use lib.IntN.{ℤ}
 use Rattle.records.specs.declared.Row.{Row}
 use Rattle.records.specs.declared.Kind.TheVariants.{Lent}
 use Rattle.records.specs.Refusals.{refusal}
-use Rattle.records.specs.Groups.{wholes, rowCount}
-use Rattle.records.specs.Limits.{mostPoints}
+use Rattle.records.specs.Groups.{wholes, row_count}
+use Rattle.records.specs.Limits.{most_points}
 use Rattle.records.specs.Shapes.{Traverse, traverse}
 use Rattle.records.specs.declared.Check.{Check}
 use Rattle.records.specs.declared.Check.TheVariants.{Pass, Fail}
@@ -21,19 +21,19 @@ use Rattle.records.specs.CheckOrder.{◌then◌}
 use Rattle.march.specs.declared.Call.{Call}
 use Rattle.march.specs.Answers.{Told, accepted, refused}
 use Rattle.march.specs.Given.{given, segments}
-use Rattle.march.specs.Checks.{traverseCheck}
-use Rattle.march.specs.Take.{afterChecks, takeOf}
+use Rattle.march.specs.Checks.{traverse_check}
+use Rattle.march.specs.Take.{after_checks, take_of}
 use Rattle.march.specs.Take as march
 use Rattle.march.proofs.ChecksPassed.{traverse-in}
 use Rattle.march.proofs.Places.{wrong-rows}
 use Rattle.march.proofs.TakeLaws.{rows_long}
-use Rattle.lent.specs.Numbers.{buffersOk, wrongBuffer}
-use Rattle.surge_c.specs.Rows.{numbersFrom, laid, backed, movedRows}
-use Rattle.lent.specs.Calls.{rowsSize, callOf, marchLeft, LeftNumbers, leftNumbers, afterNumbers, numbersWith, takeNumbers}
+use Rattle.lent.specs.Numbers.{buffers_ok, wrong_buffer}
+use Rattle.surge_c.specs.Rows.{numbers_from, laid, backed, moved_rows}
+use Rattle.lent.specs.Calls.{rows_size, call_of, march_left, LeftNumbers, left_numbers, after_numbers, numbers_with, take_numbers}
 use Rattle.lent.proofs.CallLaws.{size_few, size-many}
-use Rattle.surge_c.specs.Calls.{leftRows, afterTaken, takeWith, takeCall}
+use Rattle.surge_c.specs.Calls.{left_rows, after_taken, take_with, take_call}
 use Rattle.surge_c.proofs.RowLaws.{backed-laid, numbers-length, rows_back, count-is}
-use Rattle.surge_c.proofs.CallLaws.{zeros, withNumbers, inRows, Framed, call-said}
+use Rattle.surge_c.proofs.CallLaws.{zeros, with_numbers, in_rows, Framed, call-said}
 
 -- ---- numbers past those of the rows are not read and not changed
 
@@ -50,54 +50,54 @@ take_none (x ∷ l) = refl
 
 module _ (latitude friction initial : ℤ) (points : List ℤ) (seconds tide : ℤ) (storm state setup answer : List ℤ) where
   abbrev call : Call
-  call = callOf latitude friction initial seconds tide state
+  call = call_of latitude friction initial seconds tide state
 
   abbrev F : ℕ → List ℤ → LeftNumbers
-  F n l = takeNumbers latitude friction initial points seconds tide storm state n l setup answer
+  F n l = take_numbers latitude friction initial points seconds tide storm state n l setup answer
 
   -- with n rows, and no more than may be lent
-  of-few : (n : ℕ) (l more : List ℤ) → n ≤ 64 → length l ≡ 3 * n → F n (l ++ more) ≡ numbersWith (marchLeft call points storm l setup) (3 * n) state (l ++ more) setup answer
-  unfolding takeNumbers
+  of-few : (n : ℕ) (l more : List ℤ) → n ≤ 64 → length l ≡ 3 * n → F n (l ++ more) ≡ numbers_with (march_left call points storm l setup) (3 * n) state (l ++ more) setup answer
+  unfolding take_numbers
   of-few n l more h e =
       let k : 3 * n ≤ length (l ++ more) = rw (length-append l more) (omega arith) in
       rw (size_few n (length (l ++ more)) h k, take_at l more (3 * n) e)
 
-  of-all : (n : ℕ) (l : List ℤ) → n ≤ 64 → length l ≡ 3 * n → F n l ≡ numbersWith (marchLeft call points storm l setup) (3 * n) state l setup answer
-  of-all n l h e = subst (λ (z : List ℤ). F n z ≡ numbersWith (marchLeft call points storm l setup) (3 * n) state z setup answer) (append-nil l) (of-few n l [] h e)
+  of-all : (n : ℕ) (l : List ℤ) → n ≤ 64 → length l ≡ 3 * n → F n l ≡ numbers_with (march_left call points storm l setup) (3 * n) state l setup answer
+  of-all n l h e = subst (λ (z : List ℤ). F n z ≡ numbers_with (march_left call points storm l setup) (3 * n) state z setup answer) (append-nil l) (of-few n l [] h e)
 
-  of-many : (n : ℕ) (l : List ℤ) → 64 < n → F n l ≡ numbersWith (marchLeft call points storm [] setup) 0 state l setup answer
-  unfolding takeNumbers
+  of-many : (n : ℕ) (l : List ℤ) → 64 < n → F n l ≡ numbers_with (march_left call points storm [] setup) 0 state l setup answer
+  unfolding take_numbers
   of-many n l h = rw (size-many n (length l) h, take_none l)
 
   abbrev Made : Bool → Told → march.Left → ℕ → List ℤ → LeftNumbers
-  Made ok told x size l = cond ok (afterNumbers told x size state l) (leftNumbers wrongBuffer state l setup answer)
+  Made ok told x size l = cond ok (after_numbers told x size state l) (left_numbers wrong_buffer state l setup answer)
 
   pub framed : Framed F
   framed = record {
-    few = λ n l more h e. of-few n l more h e ∙ few-by n l more e (buffersOk (length state) (length answer)) (marchLeft call points storm l setup).answer ∙ sym (ap (λ (x : LeftNumbers). withNumbers x (x.numbers ++ more)) (of-all n l h e));
-    long = λ n l h e. ap (λ (x : LeftNumbers). length x.numbers) (of-all n l h e) ∙ long-by n l e (buffersOk (length state) (length answer)) (marchLeft call points storm l setup).answer;
-    many = λ n l k h. of-many n l h ∙ many_by l k (buffersOk (length state) (length answer)) (marchLeft call points storm [] setup).answer ∙ sym (ap (λ (x : LeftNumbers). withNumbers x l) (of-many n k h));
+    few = λ n l more h e. of-few n l more h e ∙ few-by n l more e (buffers_ok (length state) (length answer)) (march_left call points storm l setup).answer ∙ sym (ap (λ (x : LeftNumbers). with_numbers x (x.numbers ++ more)) (of-all n l h e));
+    long = λ n l h e. ap (λ (x : LeftNumbers). length x.numbers) (of-all n l h e) ∙ long-by n l e (buffers_ok (length state) (length answer)) (march_left call points storm l setup).answer;
+    many = λ n l k h. of-many n l h ∙ many_by l k (buffers_ok (length state) (length answer)) (march_left call points storm [] setup).answer ∙ sym (ap (λ (x : LeftNumbers). with_numbers x l) (of-many n k h));
   }
     where
-      few-by : (n : ℕ) (l more : List ℤ) → length l ≡ 3 * n → (ok : Bool) (told : Told) → let x = marchLeft call points storm l setup in
-          Made ok told x (3 * n) (l ++ more) ≡ withNumbers (Made ok told x (3 * n) l) ((Made ok told x (3 * n) l).numbers ++ more)
+      few-by : (n : ℕ) (l more : List ℤ) → length l ≡ 3 * n → (ok : Bool) (told : Told) → let x = march_left call points storm l setup in
+          Made ok told x (3 * n) (l ++ more) ≡ with_numbers (Made ok told x (3 * n) l) ((Made ok told x (3 * n) l).numbers ++ more)
       few-by n l more e true (accepted elapsed low high) =
-          let x = marchLeft call points storm l setup in
+          let x = march_left call points storm l setup in
           let none : drop (3 * n) l ≡ [] = past_all l (3 * n) (omega arith) in
           rw (none, append-nil x.rows, drop_at l more (3 * n) e)
       few-by n l more e true (refused number place) = refl
       few-by n l more e false told = refl
 
-      long-by : (n : ℕ) (l : List ℤ) → length l ≡ 3 * n → (ok : Bool) (told : Told) → length (Made ok told (marchLeft call points storm l setup) (3 * n) l).numbers ≡ 3 * n
+      long-by : (n : ℕ) (l : List ℤ) → length l ≡ 3 * n → (ok : Bool) (told : Told) → length (Made ok told (march_left call points storm l setup) (3 * n) l).numbers ≡ 3 * n
       long-by n l e true (accepted elapsed low high) =
-          let x = marchLeft call points storm l setup in
+          let x = march_left call points storm l setup in
           let none : drop (3 * n) l ≡ [] = past_all l (3 * n) (omega arith) in
-          rw (none, append-nil x.rows) (rows_long (given mostPoints call points storm l setup) ∙ e)
+          rw (none, append-nil x.rows) (rows_long (given most_points call points storm l setup) ∙ e)
       long-by n l e true (refused number place) = e
       long-by n l e false told = e
 
-      many_by : (l k : List ℤ) (ok : Bool) (told : Told) → let x = marchLeft call points storm [] setup in Made ok told x 0 l ≡ withNumbers (Made ok told x 0 k) l
-      many_by l k true (accepted elapsed low high) = rw (empty (marchLeft call points storm [] setup).rows (rows_long (given mostPoints call points storm [] setup)), drop-none l)
+      many_by : (l k : List ℤ) (ok : Bool) (told : Told) → let x = march_left call points storm [] setup in Made ok told x 0 l ≡ with_numbers (Made ok told x 0 k) l
+      many_by l k true (accepted elapsed low high) = rw (empty (march_left call points storm [] setup).rows (rows_long (given most_points call points storm [] setup)), drop-none l)
         where
           drop-none : (l : List ℤ) → drop 0 l ≡ l
           drop-none [] = refl
@@ -107,14 +107,14 @@ module _ (latitude friction initial : ℤ) (points : List ℤ) (seconds tide : �
 
   -- a call that is not accepted leaves the numbers
   pub refused-numbers : (n : ℕ) (l : List ℤ) → ((F n l).number ≡ 0 → ⊥) → (F n l).numbers ≡ l
-  unfolding takeNumbers
-  refused-numbers n l = by (buffersOk (length state) (length answer)) x.answer
+  unfolding take_numbers
+  refused-numbers n l = by (buffers_ok (length state) (length answer)) x.answer
     where
       size : ℕ
-      size = rowsSize n (length l)
+      size = rows_size n (length l)
 
       x : march.Left
-      x = marchLeft call points storm (take size l) setup
+      x = march_left call points storm (take size l) setup
 
       by : (ok : Bool) (told : Told) → ((Made ok told x size l).number ≡ 0 → ⊥) → (Made ok told x size l).numbers ≡ l
       by true (accepted elapsed low high) h = absurd (h refl)
@@ -126,65 +126,65 @@ module _ (latitude friction initial : ℤ) (points : List ℤ) (seconds tide : �
   abbrev t : Traverse
   t = traverse call.head points
 
-  not-one-each : (rows : List ℤ) → (rowCount rows ≡ 0) → traverseCheck mostPoints t ≡ Pass → rowCount rows ≡ segments t → ⊥
-  not-one-each rows e p q = let v = traverse-in mostPoints t p in omega (arith, e, q, v.from)
+  not-one-each : (rows : List ℤ) → (row_count rows ≡ 0) → traverse_check most_points t ≡ Pass → row_count rows ≡ segments t → ⊥
+  not-one-each rows e p q = let v = traverse-in most_points t p in omega (arith, e, q, v.from)
 
-  too_many : (rows : List ℤ) → 64 < rowCount rows → traverseCheck mostPoints t ≡ Pass → rowCount rows ≡ segments t → ⊥
-  too_many rows e p q = let v = traverse-in mostPoints t p in omega (arith, e, q, v.to)
+  too_many : (rows : List ℤ) → 64 < row_count rows → traverse_check most_points t ≡ Pass → row_count rows ≡ segments t → ⊥
+  too_many rows e p q = let v = traverse-in most_points t p in omega (arith, e, q, v.to)
 
-  refused-alike : (rows : List ℤ) → (traverseCheck mostPoints t ≡ Pass → rowCount rows ≡ segments t → ⊥) →
-      marchLeft call points storm rows setup ≡ afterChecks (traverseCheck mostPoints t then Fail (refusal Lent 0)) (given mostPoints call points storm rows setup)
-  unfolding takeOf
-  refused-alike rows h = ap (λ (k : Check). afterChecks k (given mostPoints call points storm rows setup)) (wrong-rows mostPoints t _ _ rows (length setup) h)
+  refused-alike : (rows : List ℤ) → (traverse_check most_points t ≡ Pass → row_count rows ≡ segments t → ⊥) →
+      march_left call points storm rows setup ≡ after_checks (traverse_check most_points t then Fail (refusal Lent 0)) (given most_points call points storm rows setup)
+  unfolding take_of
+  refused-alike rows h = ap (λ (k : Check). after_checks k (given most_points call points storm rows setup)) (wrong-rows most_points t _ _ rows (length setup) h)
 
   -- ---- rows
 
-  none-held : rowCount [] ≡ 0
+  none-held : row_count [] ≡ 0
   unfolding wholes
   none-held = refl
 
-  pub rows-call : (rows : List Row) → inRows (F (length rows) (numbersFrom rows)) ≡ takeCall latitude friction initial points seconds tide storm state rows setup answer
-  unfolding takeCall
+  pub rows-call : (rows : List Row) → in_rows (F (length rows) (numbers_from rows)) ≡ take_call latitude friction initial points seconds tide storm state rows setup answer
+  unfolding take_call
   rows-call rows = by (leb (length rows) 64) refl
     where
       few : (ok : Bool) (told : Told) (x : march.Left) →
-          inRows (cond ok (afterNumbers told x (3 * length rows) state (numbersFrom rows)) (leftNumbers wrongBuffer state (numbersFrom rows) setup answer))
-          ≡ cond ok (afterTaken told x state rows) (leftRows wrongBuffer state rows setup answer)
+          in_rows (cond ok (after_numbers told x (3 * length rows) state (numbers_from rows)) (left_numbers wrong_buffer state (numbers_from rows) setup answer))
+          ≡ cond ok (after_taken told x state rows) (left_rows wrong_buffer state rows setup answer)
       few true (accepted elapsed low high) x =
           let e = numbers-length rows in
-          let none : drop (3 * length rows) (numbersFrom rows) ≡ [] = past_all (numbersFrom rows) (3 * length rows) (omega arith) in
+          let none : drop (3 * length rows) (numbers_from rows) ≡ [] = past_all (numbers_from rows) (3 * length rows) (omega arith) in
           rw (none, append-nil x.rows)
       few true (refused number place) x = rw (rows_back rows)
       few false told x = rw (rows_back rows)
 
       many : (ok : Bool) (k : Check) →
-          inRows (cond ok (afterNumbers (afterChecks (k then Fail (refusal Lent 0)) (given mostPoints call points storm [] setup)).answer (afterChecks (k then Fail (refusal Lent 0)) (given mostPoints call points storm [] setup)) 0 state (numbersFrom rows)) (leftNumbers wrongBuffer state (numbersFrom rows) setup answer))
-          ≡ cond ok (afterTaken (afterChecks (k then Fail (refusal Lent 0)) (given mostPoints call points storm (numbersFrom rows) setup)).answer (afterChecks (k then Fail (refusal Lent 0)) (given mostPoints call points storm (numbersFrom rows) setup)) state rows) (leftRows wrongBuffer state rows setup answer)
+          in_rows (cond ok (after_numbers (after_checks (k then Fail (refusal Lent 0)) (given most_points call points storm [] setup)).answer (after_checks (k then Fail (refusal Lent 0)) (given most_points call points storm [] setup)) 0 state (numbers_from rows)) (left_numbers wrong_buffer state (numbers_from rows) setup answer))
+          ≡ cond ok (after_taken (after_checks (k then Fail (refusal Lent 0)) (given most_points call points storm (numbers_from rows) setup)).answer (after_checks (k then Fail (refusal Lent 0)) (given most_points call points storm (numbers_from rows) setup)) state rows) (left_rows wrong_buffer state rows setup answer)
       many true Pass = rw (rows_back rows)
       many true (Fail r) = rw (rows_back rows)
       many false k = rw (rows_back rows)
 
-      by : (small : Bool) → leb (length rows) 64 ≡ small → inRows (F (length rows) (numbersFrom rows)) ≡ takeWith (marchLeft call points storm (numbersFrom rows) setup) state rows setup answer
+      by : (small : Bool) → leb (length rows) 64 ≡ small → in_rows (F (length rows) (numbers_from rows)) ≡ take_with (march_left call points storm (numbers_from rows) setup) state rows setup answer
       by true e =
-          ap inRows (of-all (length rows) (numbersFrom rows) (leb-true (length rows) 64 e) (numbers-length rows))
-          ∙ few (buffersOk (length state) (length answer)) (marchLeft call points storm (numbersFrom rows) setup).answer (marchLeft call points storm (numbersFrom rows) setup)
+          ap in_rows (of-all (length rows) (numbers_from rows) (leb-true (length rows) 64 e) (numbers-length rows))
+          ∙ few (buffers_ok (length state) (length answer)) (march_left call points storm (numbers_from rows) setup).answer (march_left call points storm (numbers_from rows) setup)
       by false e =
           let h : 64 < length rows = leb-false (length rows) 64 e in
           let c = count-is rows in
-          ap inRows (of-many (length rows) (numbersFrom rows) h)
-          ∙ rw (refused-alike [] (not-one-each [] none-held), refused-alike (numbersFrom rows) (too_many (numbersFrom rows) (omega (arith, h, c)))) (many (buffersOk (length state) (length answer)) (traverseCheck mostPoints t))
+          ap in_rows (of-many (length rows) (numbers_from rows) h)
+          ∙ rw (refused-alike [] (not-one-each [] none-held), refused-alike (numbers_from rows) (too_many (numbers_from rows) (omega (arith, h, c)))) (many (buffers_ok (length state) (length answer)) (traverse_check most_points t))
 
   -- ---- the numbers of m rows, laid over zeros
 
-  module _ (rows : List Row) (m : ℕ) (m-is : m ≡ movedRows (length rows)) (numbers : List ℤ) (numbers-are : numbers ≡ laid m rows zeros)
-      (r : ℕ) (state' numbers' setup' answer' : List ℤ) (e : leftNumbers r state' numbers' setup' answer' ≡ F (length rows) numbers) where
+  module _ (rows : List Row) (m : ℕ) (m-is : m ≡ moved_rows (length rows)) (numbers : List ℤ) (numbers-are : numbers ≡ laid m rows zeros)
+      (r : ℕ) (state' numbers' setup' answer' : List ℤ) (e : left_numbers r state' numbers' setup' answer' ≡ F (length rows) numbers) where
     -- with rows made of what was left
-    pub rows-taken : leftRows r state' (backed m numbers' rows) setup' answer' ≡ takeCall latitude friction initial points seconds tide storm state rows setup answer
+    pub rows-taken : left_rows r state' (backed m numbers' rows) setup' answer' ≡ take_call latitude friction initial points seconds tide storm state rows setup answer
     rows-taken = call-said F framed rows m m-is r state' numbers' setup' answer' (e ∙ ap (F (length rows)) numbers-are) ∙ rows-call rows
 
     -- with the rows as they were, where the call is not accepted
-    pub rows-kept : (r ≡ 0 → ⊥) → leftRows r state' rows setup' answer' ≡ takeCall latitude friction initial points seconds tide storm state rows setup answer
+    pub rows-kept : (r ≡ 0 → ⊥) → left_rows r state' rows setup' answer' ≡ take_call latitude friction initial points seconds tide storm state rows setup answer
     rows-kept other =
         let kept : numbers' ≡ laid m rows zeros = ap (λ (x : LeftNumbers). x.numbers) e ∙ refused-numbers (length rows) numbers (λ z. other (ap (λ (x : LeftNumbers). x.number) e ∙ z)) ∙ numbers-are in
         let same : rows ≡ backed m numbers' rows = sym (ap (λ (l : List ℤ). backed m l rows) kept ∙ backed-laid m rows zeros) in
-        ap (λ (l : List Row). leftRows r state' l setup' answer') same ∙ rows-taken
+        ap (λ (l : List Row). left_rows r state' l setup' answer') same ∙ rows-taken

@@ -7,12 +7,12 @@ use Prim.Native.Nat.{ℕ, zero, suc, ◌+◌, ◌*◌, ◌<◌, ◌≤◌}
 use lib.ListN.{length, get_or, set, drop}
 use lib.IntN.{ℤ, pos}
 use Rattle.records.specs.declared.Row.{Row}
-use Rattle.records.specs.Groups.{rowCount}
+use Rattle.records.specs.Groups.{row_count}
 use Rattle.records.proofs.GroupLaws.{wholes-times}
-use Rattle.surge_c.specs.Rows.{numbersFrom, rowsFrom, rowAt, laid, backed}
+use Rattle.surge_c.specs.Rows.{numbers_from, rows_from, row_at, laid, backed}
 
-abbrev pub noRow : Row
-noRow = record { low = pos 0; high = pos 0; cross = pos 0 }
+abbrev pub no_row : Row
+no_row = record { low = pos 0; high = pos 0; cross = pos 0 }
 
 -- ---- lengths
 
@@ -49,7 +49,7 @@ later (a ∷ []) k = refl
 later (a ∷ b ∷ []) k = refl
 later (a ∷ b ∷ c ∷ l) k = refl
 
-pub laid_next : (i : ℕ) (rows : List Row) (below : List ℤ) → i < length rows → 3 * i + 2 < length below → let v = get_or rows i noRow in
+pub laid_next : (i : ℕ) (rows : List Row) (below : List ℤ) → i < length rows → 3 * i + 2 < length below → let v = get_or rows i no_row in
     set (set (set (laid i rows below) (3 * i) v.low) (3 * i + 1) v.high) (3 * i + 2) v.cross ≡ laid (i + 1) rows below
 laid_next i [] below h k = absurd (not-suc-le-zero h)
 laid_next i (v ∷ rows) [] h k = absurd (omega (arith, k))
@@ -59,11 +59,11 @@ laid_next zero (v ∷ rows) (a ∷ b ∷ c ∷ l) h k = refl
 laid_next (suc i) (v ∷ rows) (a ∷ b ∷ c ∷ l) h k =
     rw (three i, three-one i, three-two i, one_more i) (ap (λ (m : List ℤ). v.low ∷ v.high ∷ v.cross ∷ m) (laid_next i rows l (le_of_suc-le-suc h) (omega (arith, k))))
 
-pub backed-next : (i : ℕ) (l : List ℤ) (rows : List Row) → i < length rows → set (backed i l rows) i (rowAt l i) ≡ backed (i + 1) l rows
+pub backed-next : (i : ℕ) (l : List ℤ) (rows : List Row) → i < length rows → set (backed i l rows) i (row_at l i) ≡ backed (i + 1) l rows
 backed-next i l [] h = absurd (not-suc-le-zero h)
 backed-next zero l (v ∷ rows) h = refl
 backed-next (suc i) l (v ∷ rows) h =
-    rw (three i, three-one i, three-two i, one_more i, later l (3 * i), later l (3 * i + 1), later l (3 * i + 2)) (ap (λ (r : List Row). rowAt l 0 ∷ r) (backed-next i (drop 3 l) rows (le_of_suc-le-suc h)))
+    rw (three i, three-one i, three-two i, one_more i, later l (3 * i), later l (3 * i + 1), later l (3 * i + 2)) (ap (λ (r : List Row). row_at l 0 ∷ r) (backed-next i (drop 3 l) rows (le_of_suc-le-suc h)))
 
 -- ---- both loops
 
@@ -78,11 +78,11 @@ abbrev pub past : List Row → List ℤ → List ℤ
 past [] below = below
 past (v ∷ rows) below = past rows (drop 3 below)
 
-pub laid-all : (rows : List Row) (below : List ℤ) → laid (length rows) rows below ≡ numbersFrom rows ++ past rows below
+pub laid-all : (rows : List Row) (below : List ℤ) → laid (length rows) rows below ≡ numbers_from rows ++ past rows below
 laid-all [] below = refl
 laid-all (v ∷ rows) below = ap (λ (l : List ℤ). v.low ∷ v.high ∷ v.cross ∷ l) (laid-all rows (drop 3 below))
 
-pub backed-all : (rows : List Row) (l more : List ℤ) → length l ≡ 3 * length rows → backed (length rows) (l ++ more) rows ≡ rowsFrom l
+pub backed-all : (rows : List Row) (l more : List ℤ) → length l ≡ 3 * length rows → backed (length rows) (l ++ more) rows ≡ rows_from l
 backed-all [] [] more e = refl
 backed-all [] (a ∷ l) more e = absurd (omega (arith, e))
 backed-all (v ∷ rows) [] more e = absurd (omega (arith, e))
@@ -90,13 +90,13 @@ backed-all (v ∷ rows) (a ∷ []) more e = absurd (omega (arith, e))
 backed-all (v ∷ rows) (a ∷ b ∷ []) more e = absurd (omega (arith, e))
 backed-all (v ∷ rows) (a ∷ b ∷ c ∷ l) more e = ap (λ (r : List Row). record { low = a; high = b; cross = c } ∷ r) (backed-all rows l more (omega (arith, e)))
 
-pub numbers-length : (rows : List Row) → length (numbersFrom rows) ≡ 3 * length rows
+pub numbers-length : (rows : List Row) → length (numbers_from rows) ≡ 3 * length rows
 numbers-length [] = refl
 numbers-length (v ∷ rows) = let h = numbers-length rows in omega (arith, h)
 
-pub rows_back : (rows : List Row) → rowsFrom (numbersFrom rows) ≡ rows
+pub rows_back : (rows : List Row) → rows_from (numbers_from rows) ≡ rows
 rows_back [] = refl
 rows_back (v ∷ rows) = ap (λ (l : List Row). v ∷ l) (rows_back rows)
 
-pub count-is : (rows : List Row) → rowCount (numbersFrom rows) ≡ length rows
+pub count-is : (rows : List Row) → row_count (numbers_from rows) ≡ length rows
 count-is rows = rw (numbers-length rows) (wholes-times 3 (length rows) (omega arith))

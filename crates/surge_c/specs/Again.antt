@@ -4,25 +4,25 @@
 use Rattle.std.specs.Prelude.{◌≡◌, List, ℕ, ◌*◌, ◌<◌, ◌^◌, length, ℤ, pos}
 use Rattle.records.specs.declared.Head.{Head}
 use Rattle.records.specs.declared.Row.{Row}
-use Rattle.records.specs.Groups.{rowCount}
-use Rattle.records.specs.Limits.{mostPoints}
+use Rattle.records.specs.Groups.{row_count}
+use Rattle.records.specs.Limits.{most_points}
 use Rattle.records.specs.Shapes.{traverse}
 use Rattle.march.specs.declared.State.{State}
 use Rattle.march.specs.declared.Call.{Call}
-use Rattle.march.specs.Answers.{refused, notOpened}
-use Rattle.march.specs.Checks.{openOf}
-use Rattle.lent.specs.Numbers.{stateOf, stateNumbers, placeNumber}
-use Rattle.surge_c.specs.Rows.{numbersFrom, rowsFrom}
-use Rattle.lent.specs.Calls.{marchLeft}
+use Rattle.march.specs.Answers.{refused, not_opened}
+use Rattle.march.specs.Checks.{open_of}
+use Rattle.lent.specs.Numbers.{state_of, state_numbers, place_number}
+use Rattle.surge_c.specs.Rows.{numbers_from, rows_from}
+use Rattle.lent.specs.Calls.{march_left}
 
 -- the numbers of rows are as many rows, and these; and where numbers are whole rows, these rows are those numbers
 pub record RowsAgain : Type 0 where
-  pub count : (rows : List Row) → rowCount (numbersFrom rows) ≡ length rows
-  pub same : (rows : List Row) → rowsFrom (numbersFrom rows) ≡ rows
-  pub back : (l : List ℤ) (n : ℕ) → length l ≡ 3 * n → numbersFrom (rowsFrom l) ≡ l
+  pub count : (rows : List Row) → row_count (numbers_from rows) ≡ length rows
+  pub same : (rows : List Row) → rows_from (numbers_from rows) ≡ rows
+  pub back : (l : List ℤ) (n : ℕ) → length l ≡ 3 * n → numbers_from (rows_from l) ≡ l
 
 abbrev pub StateAgain : Type 0
-StateAgain = (st : State) → stateOf (stateNumbers st) ≡ st
+StateAgain = (st : State) → state_of (state_numbers st) ≡ st
 
 -- ---- no place is past the greatest number with sign, since no slice has so many points
 
@@ -31,7 +31,7 @@ abbrev pub Fitting : List ℤ → Type 0
 Fitting l = length l < 2 ^ 64
 
 abbrev pub OpenPlaceWhole : Type 0
-OpenPlaceWhole = (head : Head) (points : List ℤ) (number place : ℕ) → Fitting points → (openOf mostPoints (traverse head points)).answer ≡ notOpened number place → placeNumber place ≡ pos place
+OpenPlaceWhole = (head : Head) (points : List ℤ) (number place : ℕ) → Fitting points → (open_of most_points (traverse head points)).answer ≡ not_opened number place → place_number place ≡ pos place
 
 abbrev pub TakePlaceWhole : Type 0
-TakePlaceWhole = (call : Call) (points storm rows setup : List ℤ) (number place : ℕ) → Fitting points → (marchLeft call points storm rows setup).answer ≡ refused number place → placeNumber place ≡ pos place
+TakePlaceWhole = (call : Call) (points storm rows setup : List ℤ) (number place : ℕ) → Fitting points → (march_left call points storm rows setup).answer ≡ refused number place → place_number place ≡ pos place

@@ -1,13 +1,13 @@
 -- The exported call that takes a record, on row structs, whatever it is given: what is returned, and everything that was lent. It is the march's own
--- definition (`takeOf`) of the rows' numbers. `Takes` is the promise itself: the `ensures` of `fennhop_take_record` and the statement over lists of
+-- definition (`take_of`) of the rows' numbers. `Takes` is the promise itself: the `ensures` of `fennhop_take_record` and the statement over lists of
 -- calls are both of it. The other three are `lent`'s own.
 use Rattle.std.specs.Prelude.{◌≡◌, cond, List, ℕ, length, ℤ, pos}
 use Rattle.records.specs.declared.Row.{Row}
 use Rattle.march.specs.Answers.{Told, accepted, refused}
 use Rattle.march.specs.Take as march
-use Rattle.lent.specs.Numbers.{stateNumbers, answerNumbers, refusedAnswer, buffersOk, wrongBuffer}
-use Rattle.lent.specs.Calls.{callOf, marchLeft}
-use Rattle.surge_c.specs.Rows.{numbersFrom, rowsFrom}
+use Rattle.lent.specs.Numbers.{state_numbers, answer_numbers, refused_answer, buffers_ok, wrong_buffer}
+use Rattle.lent.specs.Calls.{call_of, march_left}
+use Rattle.surge_c.specs.Rows.{numbers_from, rows_from}
 
 pub record LeftRows : Type 0 where
   pub number : ℕ
@@ -16,22 +16,22 @@ pub record LeftRows : Type 0 where
   pub setup : List ℤ
   pub answer : List ℤ
 
-abbrev pub leftRows : ℕ → List ℤ → List Row → List ℤ → List ℤ → LeftRows
-leftRows number state rows setup answer = record { number = number; state = state; rows = rows; setup = setup; answer = answer }
+abbrev pub left_rows : ℕ → List ℤ → List Row → List ℤ → List ℤ → LeftRows
+left_rows number state rows setup answer = record { number = number; state = state; rows = rows; setup = setup; answer = answer }
 
--- "A refused record leaves rows, setup buffer and the whole state as before it"; the setup places are `takeOf`'s in either case
-abbrev pub afterTaken : Told → march.Left → List ℤ → List Row → LeftRows
-afterTaken (accepted elapsed low high) x state rows = leftRows 0 (stateNumbers x.state) (rowsFrom x.rows) x.setup (answerNumbers (pos 0) low high)
-afterTaken (refused number place) x state rows = leftRows number state rows x.setup (refusedAnswer place)
+-- "A refused record leaves rows, setup buffer and the whole state as before it"; the setup places are `take_of`'s in either case
+abbrev pub after_taken : Told → march.Left → List ℤ → List Row → LeftRows
+after_taken (accepted elapsed low high) x state rows = left_rows 0 (state_numbers x.state) (rows_from x.rows) x.setup (answer_numbers (pos 0) low high)
+after_taken (refused number place) x state rows = left_rows number state rows x.setup (refused_answer place)
 
-abbrev pub takeWith : march.Left → List ℤ → List Row → List ℤ → List ℤ → LeftRows
-takeWith x state rows setup answer =
-    cond (buffersOk (length state) (length answer)) (afterTaken x.answer x state rows) (leftRows wrongBuffer state rows setup answer)
+abbrev pub take_with : march.Left → List ℤ → List Row → List ℤ → List ℤ → LeftRows
+take_with x state rows setup answer =
+    cond (buffers_ok (length state) (length answer)) (after_taken x.answer x state rows) (left_rows wrong_buffer state rows setup answer)
 
-unfoldable pub takeCall : ℤ → ℤ → ℤ → List ℤ → ℤ → ℤ → List ℤ → List ℤ → List Row → List ℤ → List ℤ → LeftRows
-takeCall latitude friction initial points seconds tide storm state rows setup answer =
-    takeWith (marchLeft (callOf latitude friction initial seconds tide state) points storm (numbersFrom rows) setup) state rows setup answer
+unfoldable pub take_call : ℤ → ℤ → ℤ → List ℤ → ℤ → ℤ → List ℤ → List ℤ → List Row → List ℤ → List ℤ → LeftRows
+take_call latitude friction initial points seconds tide storm state rows setup answer =
+    take_with (march_left (call_of latitude friction initial seconds tide state) points storm (numbers_from rows) setup) state rows setup answer
 
 -- the promise of the call, on these and with this left
 abbrev pub Takes : ℤ → ℤ → ℤ → List ℤ → ℤ → ℤ → List ℤ → List ℤ → List Row → List ℤ → List ℤ → LeftRows → Type 0
-Takes latitude friction initial points seconds tide storm state rows setup answer left = left ≡ takeCall latitude friction initial points seconds tide storm state rows setup answer
+Takes latitude friction initial points seconds tide storm state rows setup answer left = left ≡ take_call latitude friction initial points seconds tide storm state rows setup answer

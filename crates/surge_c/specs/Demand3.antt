@@ -6,19 +6,19 @@ use Rattle.std.specs.Prelude.{◌≡◌, List, [], ◌∷◌, map, ℕ, ◌*◌,
 use Rattle.records.specs.declared.Head.{Head}
 use Rattle.records.specs.declared.Row.{Row}
 use Rattle.records.specs.Groups.{at}
-use Rattle.records.specs.Limits.{mostPoints}
+use Rattle.records.specs.Limits.{most_points}
 use Rattle.records.specs.Shapes.{Traverse, traverse, count}
 use Rattle.march.specs.declared.State.{State}
-use Rattle.march.specs.Checks.{openOf}
-use Rattle.march.specs.Exact.{exactFresh}
-use Rattle.march.specs.Demand3.{Brought, called, AllSound, freshRows}
+use Rattle.march.specs.Checks.{open_of}
+use Rattle.march.specs.Exact.{exact_fresh}
+use Rattle.march.specs.Demand3.{Brought, called, AllSound, fresh_rows}
 use Rattle.reader.specs.Lines.{read}
-use Rattle.reader.specs.Traverse.{traverseOf}
-use Rattle.reader.specs.Storm.{stormOf}
-use Rattle.lent.specs.Numbers.{stateNumbers}
-use Rattle.lent.specs.Again.{Opening, headLeft, pointsLeft, TraverseReading, ReadCall, AllRead, noCursor, StormRead}
-use Rattle.surge_c.specs.Rows.{rowsFrom}
-use Rattle.surge_c.specs.Calls.{LeftRows, afterTaken, Takes}
+use Rattle.reader.specs.Traverse.{traverse_of}
+use Rattle.reader.specs.Storm.{storm_of}
+use Rattle.lent.specs.Numbers.{state_numbers}
+use Rattle.lent.specs.Again.{Opening, head_left, points_left, TraverseReading, ReadCall, AllRead, no_cursor, StormRead}
+use Rattle.surge_c.specs.Rows.{rows_from}
+use Rattle.surge_c.specs.Calls.{LeftRows, after_taken, Takes}
 
 -- a call: what it was lent beside the traverse and what the call before left, and what it answered and left
 pub record LentCall : Type 0 where
@@ -34,8 +34,8 @@ abbrev pub brought : LentCall → Brought
 brought c = record { storm = record { closing = record { seconds = c.seconds; tide = c.tide }; points = c.storm }; setup = c.setup }
 
 module _ (head : Head) (points : List ℤ) where
-  abbrev pub lentTraverse : Traverse
-  lentTraverse = traverse head points
+  abbrev pub lent_traverse : Traverse
+  lent_traverse = traverse head points
 
   -- the calls keep the promise of `fennhop_take_record`, with an answer of three numbers, each on the state and the rows that the one before left
   unfoldable pub AllKept : List ℤ → List Row → List LentCall → Type 0
@@ -49,15 +49,15 @@ module _ (head : Head) (points : List ℤ) where
   unfoldable pub AllTold : State → List ℤ → List LentCall → Type 0
   AllTold st rows [] = Unit {0}
   AllTold st rows (c ∷ calls) =
-      let x = called mostPoints lentTraverse st rows (brought c) in
-      (c.left ≡ afterTaken x.answer x (stateNumbers st) (rowsFrom rows)) × AllTold x.state x.rows calls
+      let x = called most_points lent_traverse st rows (brought c) in
+      (c.left ≡ after_taken x.answer x (state_numbers st) (rows_from rows)) × AllTold x.state x.rows calls
 
 -- a traverse, a call that opened it, and every list of calls from the state that this one wrote and fresh rows
 abbrev pub LentDemand3 : Type 0
 LentDemand3 =
     (head : Head) (points : List ℤ) (x : Opening head points) (calls : List LentCall) → let t = traverse head points in
-    AllKept head points x.left.state (rowsFrom (freshRows t)) calls
-    → AllTold head points (openOf mostPoints t).state (freshRows t) calls × AllSound mostPoints t (openOf mostPoints t).state (freshRows t) exactFresh (map brought calls)
+    AllKept head points x.left.state (rows_from (fresh_rows t)) calls
+    → AllTold head points (open_of most_points t).state (fresh_rows t) calls × AllSound most_points t (open_of most_points t).state (fresh_rows t) exact_fresh (map brought calls)
 
 -- ---- the calls of a program that is given two texts
 
@@ -81,20 +81,20 @@ taking n s = record {
 
 -- what then holds of the traverse that was opened and of these steps
 pub record TextsMarched (traverse-text storm-text : List ℕ) (t : Traverse) (steps : List StormStep) : Type 0 where
-  pub traverse-is : (place : ℕ) × (line : ℕ) × (traverseOf traverse-text ≡ read t place line)
+  pub traverse-is : (place : ℕ) × (line : ℕ) × (traverse_of traverse-text ≡ read t place line)
   -- what was read is the storm text's, its first records or all, and just that was taken
-  pub read-are : StormRead storm-text (count t) noCursor (map (λ s. s.reading) steps) (stormOf storm-text (count t))
-  pub taken-are : map (λ s. (brought (taking (count t) s)).storm) steps ≡ take (length steps) (stormOf storm-text (count t)).records
+  pub read-are : StormRead storm-text (count t) no_cursor (map (λ s. s.reading) steps) (storm_of storm-text (count t))
+  pub taken-are : map (λ s. (brought (taking (count t) s)).storm) steps ≡ take (length steps) (storm_of storm-text (count t)).records
   -- and what was answered and left is the march's, and sound
-  pub told : AllTold t.head t.points (openOf mostPoints t).state (freshRows t) (map (taking (count t)) steps)
-  pub sound : AllSound mostPoints t (openOf mostPoints t).state (freshRows t) exactFresh (map (λ s. brought (taking (count t) s)) steps)
+  pub told : AllTold t.head t.points (open_of most_points t).state (fresh_rows t) (map (taking (count t)) steps)
+  pub sound : AllSound most_points t (open_of most_points t).state (fresh_rows t) exact_fresh (map (λ s. brought (taking (count t) s)) steps)
 
 -- the traverse read and opened, then record after record read and taken, as many as there are or fewer
 abbrev pub TextDemand3 : Type 0
 TextDemand3 =
     (traverse-text storm-text : List ℕ) → length storm-text < 2 ^ 63
-    → (r : TraverseReading traverse-text) → r.left.number ≡ 0 → let head = headLeft r.left in let points = pointsLeft r.left in
+    → (r : TraverseReading traverse-text) → r.left.number ≡ 0 → let head = head_left r.left in let points = points_left r.left in
     (x : Opening head points) → let t = traverse head points in
-    (steps : List StormStep) → AllRead storm-text (count t) noCursor (map (λ s. s.reading) steps)
-    → AllKept head points x.left.state (rowsFrom (freshRows t)) (map (taking (count t)) steps)
+    (steps : List StormStep) → AllRead storm-text (count t) no_cursor (map (λ s. s.reading) steps)
+    → AllKept head points x.left.state (rows_from (fresh_rows t)) (map (taking (count t)) steps)
     → TextsMarched traverse-text storm-text t steps

@@ -2,26 +2,26 @@
 use Rattle.std.specs.Prelude.{List, [], ◌∷◌, ℕ, zero, suc, ◌+◌, ◌-◌, ◌*◌, drop, get_or, ℤ, pos}
 use Rattle.records.specs.declared.Row.{Row}
 
-abbrev pub numbersFrom : List Row → List ℤ
-numbersFrom [] = []
-numbersFrom (v ∷ rows) = v.low ∷ v.high ∷ v.cross ∷ numbersFrom rows
+abbrev pub numbers_from : List Row → List ℤ
+numbers_from [] = []
+numbers_from (v ∷ rows) = v.low ∷ v.high ∷ v.cross ∷ numbers_from rows
 
 -- one or two numbers at the end make no row
-abbrev pub rowsFrom : List ℤ → List Row
-rowsFrom [] = []
-rowsFrom (a ∷ []) = []
-rowsFrom (a ∷ b ∷ []) = []
-rowsFrom (a ∷ b ∷ c ∷ l) = record { low = a; high = b; cross = c } ∷ rowsFrom l
+abbrev pub rows_from : List ℤ → List Row
+rows_from [] = []
+rows_from (a ∷ []) = []
+rows_from (a ∷ b ∷ []) = []
+rows_from (a ∷ b ∷ c ∷ l) = record { low = a; high = b; cross = c } ∷ rows_from l
 
 -- ---- the code's own: a call has room for 64 rows
 
 -- the lesser of n and 64
-abbrev pub movedRows : ℕ → ℕ
-movedRows n = n - (n - 64)
+abbrev pub moved_rows : ℕ → ℕ
+moved_rows n = n - (n - 64)
 
 -- row i of the numbers l
-abbrev pub rowAt : List ℤ → ℕ → Row
-rowAt l i = record { low = get_or l (3 * i) (pos 0); high = get_or l (3 * i + 1) (pos 0); cross = get_or l (3 * i + 2) (pos 0) }
+abbrev pub row_at : List ℤ → ℕ → Row
+row_at l i = record { low = get_or l (3 * i) (pos 0); high = get_or l (3 * i + 1) (pos 0); cross = get_or l (3 * i + 2) (pos 0) }
 
 -- the numbers of the first i rows in place of those that lay below
 abbrev pub laid : ℕ → List Row → List ℤ → List ℤ
@@ -33,4 +33,4 @@ laid (suc i) (v ∷ rows) below = v.low ∷ v.high ∷ v.cross ∷ laid i rows (
 abbrev pub backed : ℕ → List ℤ → List Row → List Row
 backed zero l rows = rows
 backed (suc i) l [] = []
-backed (suc i) l (v ∷ rows) = rowAt l 0 ∷ backed i (drop 3 l) rows
+backed (suc i) l (v ∷ rows) = row_at l 0 ∷ backed i (drop 3 l) rows

@@ -3,12 +3,12 @@
 #![tactic(auto)]
 
 ghost use Rattle.std.specs.Prelude.{◌≡◌, ◌*◌, ◌≤◌, length};
-ghost use Rattle.lent.specs.Calls.{leftOpen, Opens};
-ghost use Rattle.lent.specs.Decks.{leftText, ReadsDeck};
-ghost use Rattle.lent.specs.Making.{leftMake, Makes};
-ghost use Rattle.lent.specs.Texts.{leftTraverse, ReadsTraverse, leftRecord, ReadsRecord};
-ghost use Rattle.surge_c.specs.Rows.{laid, backed, movedRows};
-ghost use Rattle.surge_c.specs.Calls.{leftRows, Takes};
+ghost use Rattle.lent.specs.Calls.{left_open, Opens};
+ghost use Rattle.lent.specs.Decks.{left_text, ReadsDeck};
+ghost use Rattle.lent.specs.Making.{left_make, Makes};
+ghost use Rattle.lent.specs.Texts.{left_traverse, ReadsTraverse, left_record, ReadsRecord};
+ghost use Rattle.surge_c.specs.Rows.{laid, backed, moved_rows};
+ghost use Rattle.surge_c.specs.Calls.{left_rows, Takes};
 
 use records::Row;
 use records::limits::SEGMENTS_MOST;
@@ -23,7 +23,7 @@ pub extern "C" fn fennhop_open_traverse(
     state: &mut [i64],
     answer: &mut [i64],
 ) -> u64
-    ensures { Opens latitude friction initial points.now state.old answer.old (leftOpen result state.new answer.new) }
+    ensures { Opens latitude friction initial points.now state.old answer.old (left_open result state.new answer.new) }
 {
     lent::open_traverse(latitude, friction, initial, points, state, answer)
 }
@@ -36,7 +36,7 @@ pub extern "C" fn fennhop_read_traverse(
     points: &mut [i64],
     answer: &mut [i64],
 ) -> u64
-    ensures { ReadsTraverse text.now head.old points.old answer.old (leftTraverse result head.new points.new answer.new) }
+    ensures { ReadsTraverse text.now head.old points.old answer.old (left_traverse result head.new points.new answer.new) }
 {
     lent::read_traverse(text, head, points, answer)
 }
@@ -51,7 +51,7 @@ pub extern "C" fn fennhop_read_record(
     storm: &mut [i64],
     answer: &mut [i64],
 ) -> u64
-    ensures { ReadsRecord text.now count cursor.old values.old storm.old answer.old (leftRecord result cursor.new values.new storm.new answer.new) }
+    ensures { ReadsRecord text.now count cursor.old values.old storm.old answer.old (left_record result cursor.new values.new storm.new answer.new) }
 {
     lent::read_record(text, count, cursor, values, storm, answer)
 }
@@ -72,7 +72,7 @@ pub extern "C" fn fennhop_make_record(
     storm: &mut [i64],
     answer: &mut [i64],
 ) -> u64
-    ensures { Makes central edge radius x y seconds tide winds.now sites.now storm.old answer.old (leftMake result storm.new answer.new) }
+    ensures { Makes central edge radius x y seconds tide winds.now sites.now storm.old answer.old (left_make result storm.new answer.new) }
 {
     lent::make_record(
         central, edge, radius, x, y, seconds, tide, winds, sites, storm, answer,
@@ -90,14 +90,14 @@ pub extern "C" fn fennhop_read_deck(
     text: &mut [u8],
     answer: &mut [i64],
 ) -> u64
-    ensures { ReadsDeck latitude friction initial deck.now text.old answer.old (leftText result text.new answer.new) }
+    ensures { ReadsDeck latitude friction initial deck.now text.old answer.old (left_text result text.new answer.new) }
 {
     lent::read_deck(latitude, friction, initial, deck, text, answer)
 }
 
 // How many of n rows are moved: no more can be accepted.
 fn moved_rows(n: usize) -> usize
-    ensures { result ≡ movedRows n }
+    ensures { result ≡ moved_rows n }
 {
     if n <= SEGMENTS_MOST { n } else { SEGMENTS_MOST }
 }
@@ -149,7 +149,7 @@ pub extern "C" fn fennhop_take_record(
     setup: &mut [i64],
     answer: &mut [i64],
 ) -> u64
-    ensures { Takes latitude friction initial points.now seconds tide storm.now state.old rows.old setup.old answer.old (leftRows result state.new rows.new setup.new answer.new) }
+    ensures { Takes latitude friction initial points.now seconds tide storm.now state.old rows.old setup.old answer.old (left_rows result state.new rows.new setup.new answer.new) }
 {
     let n = rows.len();
     let m = moved_rows(n);

@@ -1,16 +1,16 @@
 -- `read_deck` meets its contract. Assumes nothing.
 use Rattle.std.proofs.Common.{rules, sym, ◌∙◌}
-use Rattle.deck.specs.Cards.{deckOf}
-use Rattle.deck.specs.Deck.{convertOf}
+use Rattle.deck.specs.Cards.{deck_of}
+use Rattle.deck.specs.Deck.{convert_of}
 use Rattle.deck.proofs.CallLaws.{converts-refused, converts-unequal, converts-equal}
 use Rattle.deck.proofs.read_deck.Goals as goal
 
 pub returns-then-not-head_ok : goal.returns-then-not-head_ok
-unfolding convertOf
+unfolding convert_of
 returns-then-not-head_ok c = search rules
 
 pub returns-then-deck-eq0 : goal.returns-then-deck-eq0
-unfolding convertOf deckOf
+unfolding convert_of deck_of
 returns-then-deck-eq0 c = search rules
 
 pub returns-then-distances-depths : goal.returns-then-distances-depths

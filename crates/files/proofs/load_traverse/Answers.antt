@@ -8,7 +8,7 @@ use Rattle.reader.proofs.Ends.{Stands as Step-stands, traverse-stands}
 use Rattle.files.specs.declared.Filled.TheVariants.{Holds}
 use Rattle.files.specs.declared.Loaded.TheVariants.{Read, Refused, Failed}
 use Rattle.files.specs.Filled.{InFront, Refilled}
-use Rattle.files.specs.TraverseFile.{loadedBy}
+use Rattle.files.specs.TraverseFile.{loaded_by}
 use Rattle.files.proofs.Asks.{Asks, traverse-asks}
 use Rattle.files.proofs.Reached.{reading, asked, answered, walked_on, walked-out}
 use Rattle.files.proofs.Walked.{walked_none}
@@ -21,13 +21,13 @@ pub returns-in-Read : goal.returns-in-Read
 returns-in-Read c =
     let l = c.loop-turns in
     answered _ _ _ (reading l.k l.points l.line l.buf l.have l.last) l.turns l.invariant.walked c.step-step.result c.step-step.new.points c.step-step.ensures
-    c.file_of.result _ Read c.file_of.ensures (ap loadedBy c.in-Read.is) refl
+    c.file_of.result _ Read c.file_of.ensures (ap loaded_by c.in-Read.is) refl
 
 pub returns-in-Refused : goal.returns-in-Refused
 returns-in-Refused c =
     let l = c.loop-turns in
     answered _ _ _ (reading l.k l.points l.line l.buf l.have l.last) l.turns l.invariant.walked c.step-step.result c.step-step.new.points c.step-step.ensures
-    c.file_of-in-Refused.result _ (Refused c.in-Refused.refusal) c.file_of-in-Refused.ensures (ap loadedBy c.in-Refused.is) refl
+    c.file_of-in-Refused.result _ (Refused c.in-Refused.refusal) c.file_of-in-Refused.ensures (ap loaded_by c.in-Refused.is) refl
 
 -- a step stops for more of the text within what the window holds, and where it is short of a line
 pub refill-requires : goal.refill-requires
@@ -47,7 +47,7 @@ returns-in-Failed c =
     let s = c.step-step in
     let g = asked x s.result s.new.points s.ensures c.in-More.c c.in-More.is in
     answered _ _ _ x l.turns l.invariant.walked s.result s.new.points s.ensures
-    c.file_of-in-Failed.result _ Failed c.file_of-in-Failed.ensures (ap loadedBy c.in-More.is) (subst (λ (k : ℕ). InFront l.buf c.refill.new.buf k l.have) (sym g) c.in-Failed.ensures)
+    c.file_of-in-Failed.result _ Failed c.file_of-in-Failed.ensures (ap loaded_by c.in-More.is) (subst (λ (k : ℕ). InFront l.buf c.refill.new.buf k l.have) (sym g) c.in-Failed.ensures)
 
 pub loop-turns-preserved : goal.loop-turns-preserved
 loop-turns-preserved c =

@@ -1,12 +1,12 @@
 -- `put_names` meets its contract. Assumes nothing.
 use Rattle.std.proofs.Common.{refl, ap}
 use mathlib.Core.Bool.{not}
-use Rattle.listing.specs.Lines.{namesLine}
+use Rattle.listing.specs.Lines.{names_line}
 use Rattle.listing.proofs.Answer.{put_full, put_next}
 use Rattle.listing.proofs.put_names.Goals as goal
 
 pub returns-then-not-has_room : goal.returns-then-not-has_room
-returns-then-not-has_room c = put_full namesLine _ _ 17 refl _ c.has_room.ensures (ap not c.if-not-has_room.true)
+returns-then-not-has_room c = put_full names_line _ _ 17 refl _ c.has_room.ensures (ap not c.if-not-has_room.true)
 
 pub returns : goal.returns
-returns c = put_next namesLine _ _ 17 refl _ c.has_room.ensures (ap not c.if-not-has_room.false) c.write_bytes.ensures
+returns c = put_next names_line _ _ 17 refl _ c.has_room.ensures (ap not c.if-not-has_room.false) c.write_bytes.ensures

@@ -1,6 +1,6 @@
 -- `write_refused` meets its contract. Assumes nothing.
 use Rattle.std.proofs.Common.{arith}
-use Rattle.listing.specs.Decimal.{decimalOf}
+use Rattle.listing.specs.Decimal.{decimal_of}
 use Rattle.listing.proofs.Written.{wrote-next}
 use Rattle.listing.proofs.Lines.{wrote-three, refused-length, refused-parts}
 use Rattle.listing.proofs.write_refused.Goals as goal
@@ -17,7 +17,7 @@ write_decimal-requires c =
       arith,
       refused-length c.args.number c.args.place,
       c.write_bytes-second.ensures.place,
-      wrote-next (decimalOf c.args.number) 32 c.write_decimal-third.ensures,
+      wrote-next (decimal_of c.args.number) 32 c.write_decimal-third.ensures,
     )
 
 pub returns : goal.returns

@@ -1,12 +1,12 @@
 -- `reader::close_of` meets its contract. Assumes nothing.
 use borrow.Author.Tests.{eq-eqb, ne_eqb}
-use Rattle.reader.specs.Text.{closeOf}
+use Rattle.reader.specs.Text.{close_of}
 use Rattle.reader.proofs.close_of.Goals as goal
 
 pub returns-then-n-eq0 : goal.returns-then-n-eq0
-unfolding closeOf
+unfolding close_of
 returns-then-n-eq0 c = simp (eq-eqb _ _ c.if-n-eq0.true)
 
 pub returns-else-n-eq0 : goal.returns-else-n-eq0
-unfolding closeOf
+unfolding close_of
 returns-else-n-eq0 c = simp (ne_eqb _ _ c.if-n-eq0.false)

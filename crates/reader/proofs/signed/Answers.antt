@@ -4,7 +4,7 @@ use lib.IntN.{neg_ℤ, +ℤ_idl}
 use mathlib.Core.Path.{subst⁻¹}
 use mir.Val.{SFits}
 use mir.ValLaws.{to_z_pos, to_z-of_z}
-use Rattle.reader.specs.Text.{signedValue}
+use Rattle.reader.specs.Text.{signed_value}
 use Rattle.reader.proofs.signed.Goals as goal
 
 mags : (n : ℕ) → n < 2 ^ 63 → SFits w64 (neg_ℤ (pos n))
@@ -15,11 +15,11 @@ neg-fits : (n : ℕ) → n < 2 ^ 63 → SFits w64 (pos 0 -ℤ pos n)
 neg-fits n h = subst⁻¹ (SFits w64) (+ℤ_idl (neg_ℤ (pos n))) (mags n h)
 
 pub returns-then-negative : goal.returns-then-negative
-unfolding signedValue
+unfolding signed_value
 returns-then-negative c =
     simp (to_z_pos w64 _ c.requires, to_z-of_z w64 _ (neg-fits _ c.requires), c.if-negative.true)
     (+ℤ_idl _)
 
 pub returns-else-negative : goal.returns-else-negative
-unfolding signedValue
+unfolding signed_value
 returns-else-negative c = simp (to_z_pos w64 _ c.requires, c.if-negative.false)

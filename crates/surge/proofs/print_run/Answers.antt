@@ -4,19 +4,19 @@ use Rattle.records.specs.Shapes.{Traverse, traverse}
 use Rattle.hydrograph.specs.declared.Turn.{Turn}
 use Rattle.hydrograph.specs.declared.Turn.TheVariants as turn
 use Rattle.hydrograph.specs.declared.Turned.{Turned}
-use Rattle.hydrograph.specs.Turns.{lineRoom, leftTurn, beginOf, turnLeft, freshRun}
-use Rattle.surge.specs.Standing.{wentOut}
-use Rattle.surge.specs.Printed.{beginOn}
+use Rattle.hydrograph.specs.Turns.{line_room, left_turn, begin_of, turn_left, fresh_run}
+use Rattle.surge.specs.Standing.{went_out}
+use Rattle.surge.specs.Printed.{begin_on}
 use Rattle.surge.proofs.Begun.{Begun, begin-begun, prints, begun-told}
 use Rattle.surge.proofs.print_run.Goals as goal
 
 -- what `begin` answered
-module _ (t : Traverse) (out : List ℕ) (room : lineRoom ≤ length out) (x : Turned) (out' : List ℕ)
-    (e : leftTurn x [] [] out' ≡ turnLeft (record { said = beginOf t []; numbers = [] }) freshRun [] [] out 0) (n : length out' ≡ length out) where
-  told : leftTurn x [] [] out' ≡ beginOn t out
+module _ (t : Traverse) (out : List ℕ) (room : line_room ≤ length out) (x : Turned) (out' : List ℕ)
+    (e : left_turn x [] [] out' ≡ turn_left (record { said = begin_of t []; numbers = [] }) fresh_run [] [] out 0) (n : length out' ≡ length out) where
+  told : left_turn x [] [] out' ≡ begin_on t out
   told = begun-told t out x out' e
 
-  begun : (k : Turn) → x.turn ≡ k → Begun t out room (leftTurn x [] [] out') k
+  begun : (k : Turn) → x.turn ≡ k → Begun t out room (left_turn x [] [] out') k
   begun k f = begin-begun t out room x out' told n k f
 
 pub flush-named-requires : goal.flush-named-requires
@@ -40,7 +40,7 @@ returns-in-Line c =
     let t = traverse c.args.head c.args.points.now in
     let r = c.requires.1.0 in
     let p = c.print_storm.ensures in
-    (p.0, prints t c.args.out.now r b.result b.new.out (told t c.args.out.now r b.result b.new.out b.ensures b.auto.out) (turn.Line c.in-Line.k) c.in-Line.is (wentOut c.flush-named.result) _ _ _ _ _ _ _ _ p.1)
+    (p.0, prints t c.args.out.now r b.result b.new.out (told t c.args.out.now r b.result b.new.out b.ensures b.auto.out) (turn.Line c.in-Line.k) c.in-Line.is (went_out c.flush-named.result) _ _ _ _ _ _ _ _ p.1)
 
 pub returns-in-End : goal.returns-in-End
 returns-in-End c =

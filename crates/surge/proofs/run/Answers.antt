@@ -7,7 +7,7 @@ use Rattle.files.specs.declared.Loaded.TheVariants as loaded
 use Rattle.files.specs.declared.TraverseFile.{TraverseFile}
 use Rattle.files.specs.TraverseFile.{HasPoints, LoadsSome}
 use Rattle.files.proofs.PointsRead.{loads-has}
-use Rattle.surge.specs.Standing.{noRows}
+use Rattle.surge.specs.Standing.{no_rows}
 use Rattle.surge.proofs.Begun.{ran}
 use Rattle.surge.proofs.run.Goals as goal
 
@@ -16,7 +16,7 @@ module _ (window : List ℕ) (points : List ℤ) (file : TraverseFile) (window' 
   has : (2 ≤ file.count) × (2 * file.count ≤ length points') × (file.count ≤ 65)
   has = subst (λ (x : Loaded). HasPoints x file.count (length points')) e (loads-has _ _ _ _ _ _ l.loads)
 
-  rows_there : (rows : List ℤ) → rows ≡ noRows → 3 * (file.count - 1) ≤ length rows
+  rows_there : (rows : List ℤ) → rows ≡ no_rows → 3 * (file.count - 1) ≤ length rows
   rows_there rows f = let n : length rows ≡ 192 = ap length f in omega (arith, has)
 
 pub overflow_mul-points_end : goal.overflow_mul-points_end

@@ -1,19 +1,19 @@
 -- `turn` meets its contract. Assumes nothing.
 use Rattle.std.proofs.Common.{◌≡◌, ℕ, ◌≤◌, List, length, refl, subst, arith, ℤ}
 use Rattle.records.specs.Shapes.{Traverse, traverse, count}
-use Rattle.reader.specs.Storm.{recordSize}
+use Rattle.reader.specs.Storm.{record_size}
 use Rattle.hydrograph.specs.declared.Turn.{Turn}
 use Rattle.hydrograph.specs.declared.Turn.TheVariants as turn
 use Rattle.hydrograph.specs.declared.Turned.{Turned}
-use Rattle.hydrograph.specs.Turns.{leftTurn, lineRoom}
+use Rattle.hydrograph.specs.Turns.{left_turn, line_room}
 use Rattle.surge.specs.declared.Standing.{Standing}
 use Rattle.surge.specs.Standing.{Memory, memory, Stands, Moves, Moved}
 use Rattle.surge.proofs.TurnEnds.{Told, Placed, turn-stays, moved, stands-with, stands_read}
 use Rattle.surge.proofs.turn.Goals as goal
 
 -- what is known of a turn that was made on t, from the memory a
-module _ (t : Traverse) (a : Memory) (x : Turned) (numbers' rows' : List ℤ) (out' : List ℕ) (p : Stands a.standing (length a.window) (length a.out)) (r : lineRoom ≤ length a.out)
-    (n : recordSize (count t) ≤ length a.numbers) (k : length out' ≡ length a.out) (e : Told t a x numbers' rows' out') where
+module _ (t : Traverse) (a : Memory) (x : Turned) (numbers' rows' : List ℤ) (out' : List ℕ) (p : Stands a.standing (length a.window) (length a.out)) (r : line_room ≤ length a.out)
+    (n : record_size (count t) ≤ length a.numbers) (k : length out' ≡ length a.out) (e : Told t a x numbers' rows' out') where
   -- the cursor and the place of the turn, which are in the window and in the buffer
   stays : (x.run.cursor.at ≤ a.standing.have) × Placed a.standing.have (length a.out) x.run.cursor.at a.standing.used x.turn
   stays = turn-stays t a x numbers' rows' out' p.held p.place p.waits r n k e
@@ -23,7 +23,7 @@ module _ (t : Traverse) (a : Memory) (x : Turned) (numbers' rows' : List ℤ) (o
   placed y q = subst (Placed a.standing.have (length a.out) x.run.cursor.at a.standing.used) q stays.1
 
   -- what was done with the answer, from its case
-  done : (y : Turn) → x.turn ≡ y → (s : Standing) (window out : List ℕ) → Moves y (leftTurn x numbers' rows' out') a (memory s window numbers' rows' out) → Moved t a (memory s window numbers' rows' out)
+  done : (y : Turn) → x.turn ≡ y → (s : Standing) (window out : List ℕ) → Moves y (left_turn x numbers' rows' out') a (memory s window numbers' rows' out) → Moved t a (memory s window numbers' rows' out)
   done y q s window out m = moved t a x numbers' rows' out' e y q (memory s window numbers' rows' out) refl refl m
 
 pub refilled-requires : goal.refilled-requires

@@ -3,13 +3,13 @@ use Rattle.std.proofs.Common.{rules, arith, ◌≡◌, ℕ, subst, get_or, FitsS
 use Rattle.std.proofs.Math.Facts.{to_z-of_z}
 use Rattle.records.specs.declared.Row.{Row}
 use Rattle.surge_c.specs.Rows.{laid}
-use Rattle.surge_c.proofs.RowLaws.{noRow, laid_next}
+use Rattle.surge_c.proofs.RowLaws.{no_row, laid_next}
 use Rattle.surge_c.proofs.lay_rows.Goals as goal
 
 pub loop-i-preserved : goal.loop-i-preserved
 loop-i-preserved c =
     let i = c.loop-i.i in
-    let v : Row = get_or c.args.rows.now i noRow in
+    let v : Row = get_or c.args.rows.now i no_row in
     let fl : FitsSigned w64 v.low = search rules in
     let fh : FitsSigned w64 v.high = search rules in
     let fc : FitsSigned w64 v.cross = search rules in

@@ -3,13 +3,13 @@ use Rattle.std.proofs.Common.{◌≡◌, ◌-◌, ◌∙◌, sym, ap, arith, rul
 use Rattle.reader.specs.Text.{byte}
 use Rattle.deck.specs.declared.CardCursor.{CardCursor}
 use Rattle.deck.specs.Number.{cursor}
-use Rattle.deck.specs.Walk.{firstAt}
+use Rattle.deck.specs.Walk.{first_at}
 use Rattle.deck.proofs.TextLaws.{spaces-none, spaces-ended, spaces-more}
 use Rattle.deck.proofs.CardCursor.first.Goals as goal
 use Rattle.deck.proofs.CardCursor.first.Goals.{then-byte-eq32, else-byte-eq32}
 
 pub loop-spaces-init : goal.loop-spaces-init
-unfolding firstAt
+unfolding first_at
 loop-spaces-init c =
     let e : length c.args.s.now - (c.args.self.at - c.args.self.at) ≡ length c.args.s.now = omega arith in
     record { from = omega arith; rest = rw e }

@@ -1,7 +1,7 @@
 -- `check_cards`: a card whose word is not closed by a space is malformed; any other is as `Tally::card` says, and the next one begins past it. Assumes nothing.
 use Rattle.std.proofs.Common.{◌≡◌, ◌+◌, sym, ap, ◌∙◌, arith}
 use Rattle.deck.specs.declared.CardCursor.{CardCursor}
-use Rattle.deck.specs.Checks.{cardStep}
+use Rattle.deck.specs.Checks.{card_step}
 use Rattle.deck.proofs.CheckLaws.{Reads, cards-ended, cards-refused, cards-read, word-on, card-closed, card-cut}
 use Rattle.deck.proofs.cards.check_cards.Goals as goal
 
@@ -19,7 +19,7 @@ loop-b-preserved c =
 read-here : (c : goal.In-Read) → Reads c.args.s.now c.cards.c.at c.cards.line c.more-line.result c.cards.tally c.in-Read.next c.in-Read.past.at
 read-here c =
     cards-read _ _ _ _ _ c.if-c-s.false c.more-line.ensures _ _
-    (ap (cardStep c.cards.tally) (card-closed _ _ _ _ c.loop-b.invariant.here _ c.loop-b.invariant.rest c.loop-b-test.false) ∙ sym c.card.ensures ∙ c.in-Read.is)
+    (ap (card_step c.cards.tally) (card-closed _ _ _ _ c.loop-b.invariant.here _ c.loop-b.invariant.rest c.loop-b-test.false) ∙ sym c.card.ensures ∙ c.in-Read.is)
 
 pub cards-smaller : goal.cards-smaller
 cards-smaller c = let r = read-here c in omega arith
@@ -34,12 +34,12 @@ pub returns-then-c-s-2 : goal.returns-then-c-s-2
 returns-then-c-s-2 c =
     c.refused.ensures
     ∙ cards-refused _ _ _ _ _ c.if-c-s.false c.more-line.ensures _
-    (ap (cardStep c.cards.tally) (card-cut _ _ _ _ c.loop-b.invariant.here _ c.loop-b.invariant.rest c.loop-b-test.true c.then-c-s-2.either))
+    (ap (card_step c.cards.tally) (card-cut _ _ _ _ c.loop-b.invariant.here _ c.loop-b.invariant.rest c.loop-b-test.true c.then-c-s-2.either))
     ∙ c.cards.invariant.rest
 
 pub returns-in-Refused : goal.returns-in-Refused
 returns-in-Refused c =
     c.refused-in-Refused.ensures
     ∙ cards-refused _ _ _ _ _ c.if-c-s.false c.more-line.ensures _
-    (ap (cardStep c.cards.tally) (card-closed _ _ _ _ c.loop-b.invariant.here _ c.loop-b.invariant.rest c.loop-b-test.false) ∙ sym c.card.ensures ∙ c.in-Refused.is)
+    (ap (card_step c.cards.tally) (card-closed _ _ _ _ c.loop-b.invariant.here _ c.loop-b.invariant.rest c.loop-b-test.false) ∙ sym c.card.ensures ∙ c.in-Refused.is)
     ∙ c.cards.invariant.rest

@@ -2,8 +2,8 @@
 -- Assumes nothing.
 use Rattle.std.proofs.Common.{◌≡◌, ◌+◌, ◌-◌, ◌≤◌, length}
 use Rattle.reader.specs.Text.{byte}
-use Rattle.deck.specs.Cards.{none, wordEnd, cardsBy}
-use Rattle.deck.specs.Checks.{noCards, tallied}
+use Rattle.deck.specs.Cards.{none, word_end, cards_by}
+use Rattle.deck.specs.Checks.{no_cards, tallied}
 use Rattle.deck.proofs.cards.check_cards.Given as goal
 
 abbrev pub invariant-loop-b : goal.invariant-loop-b
@@ -11,7 +11,7 @@ invariant-loop-b l = record {
   from : l.from.at ≤ l.c.at;
   within : l.c.at ≤ length l.s;
   here : l.b ≡ byte l.s l.c.at;
-  rest : wordEnd l.s (length l.s - (l.c.at - l.from.at)) l.c.at ≡ wordEnd l.s (length l.s) l.from.at;
+  rest : word_end l.s (length l.s - (l.c.at - l.from.at)) l.c.at ≡ word_end l.s (length l.s) l.from.at;
 }
 
 abbrev pub decreases-loop-b : goal.decreases-loop-b
@@ -21,7 +21,7 @@ abbrev pub invariant-cards : goal.invariant-cards
 invariant-cards l = record {
   within : l.c.at ≤ length l.s;
   counts : l.tally.distances + l.tally.depths ≤ l.c.at;
-  rest : tallied l.tally (cardsBy l.s (length l.s - l.c.at) l.tally.last l.c.at l.line) ≡ tallied noCards (cardsBy l.s (length l.s) none 0 0);
+  rest : tallied l.tally (cards_by l.s (length l.s - l.c.at) l.tally.last l.c.at l.line) ≡ tallied no_cards (cards_by l.s (length l.s) none 0 0);
 }
 
 abbrev pub decreases-cards : goal.decreases-cards

@@ -1,7 +1,7 @@
 -- `text::write_head` meets its contract. Assumes nothing.
 use Rattle.std.proofs.Common.{arith, rules, ◌+◌, ◌≤◌, length}
 use Rattle.listing.proofs.Lines.{wrote-three}
-use Rattle.deck.specs.Deck.{headLines}
+use Rattle.deck.specs.Deck.{head_lines}
 use Rattle.deck.proofs.TextLaws.{head-length, head-parts}
 use Rattle.deck.proofs.text.write_head.Goals as goal
 
@@ -23,7 +23,7 @@ write_bytes-requires c =
 
 pub returns : goal.returns
 returns c =
-    let room : 0 + length (headLines c.args.h) ≤ length c.args.out.now = omega arith in
+    let room : 0 + length (head_lines c.args.h) ≤ length c.args.out.now = omega arith in
     wrote-three (head-parts c.args.h (search rules) (search rules) (search rules)) room
     c.write_bytes-values.ensures
     c.write_values-names.ensures

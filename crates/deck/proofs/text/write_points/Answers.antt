@@ -1,6 +1,6 @@
 -- `text::write_points` meets its contract. Assumes nothing.
 use Rattle.std.proofs.Common.{◌∙◌, ◌-◌, arith}
-use Rattle.listing.specs.Decimal.{decimalOf}
+use Rattle.listing.specs.Decimal.{decimal_of}
 use Rattle.listing.proofs.Written.{wrote-next}
 use Rattle.deck.proofs.TextLaws.{lines-length, ends-more, write-none, write-more}
 use Rattle.deck.proofs.text.write_points.Goals as goal
@@ -16,7 +16,7 @@ write_decimal-place-requires c =
     omega (
       arith,
       lines-length c.args.s.now c.loop-left.left (c.loop-left.left - 1) _ _ _ _ (omega arith) c.step-d.ensures c.step-h.ensures,
-      wrote-next (decimalOf c.step-d.result.tenths) 32 c.write_decimal-middle.ensures,
+      wrote-next (decimal_of c.step-d.result.tenths) 32 c.write_decimal-middle.ensures,
     )
 
 pub loop-left-preserved : goal.loop-left-preserved

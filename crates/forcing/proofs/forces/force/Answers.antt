@@ -5,7 +5,7 @@ use mir.Facts.{to_z-of_z}
 use mir.Syntax.{w64}
 use mir.Val.{SFits}
 use Rattle.ranges.proofs.Fits.{sized-fits}
-use Rattle.forcing.specs.Force.{ForceBounds, forceTop, forceOf}
+use Rattle.forcing.specs.Force.{ForceBounds, force_top, force_of}
 use Rattle.forcing.proofs.ForceLaws.{four-sized, product-sized, top-sized}
 use Rattle.forcing.proofs.forces.force.Goals as goal
 
@@ -13,7 +13,7 @@ use Rattle.forcing.proofs.forces.force.Goals as goal
 record Steps (s o n : ℤ) : Type 0 where
   four : SFits w64 (o +ℤ n)
   product : SFits w64 (s *ℤ (o +ℤ n))
-  top : SFits w64 (forceTop s o n)
+  top : SFits w64 (force_top s o n)
 
 steps : (s o n : ℤ) → ForceBounds s o n → Steps s o n
 steps s o n h = record {
@@ -23,7 +23,7 @@ steps s o n h = record {
 }
 
 pub returns-then-first : goal.returns-then-first
-unfolding forceOf
+unfolding force_of
 returns-then-first c = let e = c.if-first.true in rw e
 
 pub overflow_mul-seconds : goal.overflow_mul-seconds
@@ -36,7 +36,7 @@ overflow_mul-seconds-2 c =
     simp (to_z-of_z, c.ranges.seconds, c.ranges.old, c.ranges.new, t.four, t.product) t.top
 
 pub returns : goal.returns
-unfolding forceOf
+unfolding force_of
 returns c =
     let t = steps _ _ _ c.requires in
     let e = c.if-first.false in

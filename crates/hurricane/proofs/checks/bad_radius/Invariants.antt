@@ -1,11 +1,11 @@
 -- `bad_radius`: none before i is bad.
 use Rattle.std.proofs.Common.{◌-◌}
 use Rattle.records.proofs.FirstBad.{SearchInv}
-use Rattle.hurricane.specs.Checks.{risingOk}
+use Rattle.hurricane.specs.Checks.{rising_ok}
 use Rattle.hurricane.proofs.checks.bad_radius.Given as goal
 
 abbrev pub invariant-loop-i : goal.invariant-loop-i
-invariant-loop-i l = SearchInv (risingOk l.winds) l.n l.i
+invariant-loop-i l = SearchInv (rising_ok l.winds) l.n l.i
 
 abbrev pub decreases-loop-i : goal.decreases-loop-i
 decreases-loop-i l = l.n - l.i

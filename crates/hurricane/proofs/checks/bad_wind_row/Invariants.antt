@@ -1,11 +1,11 @@
 -- `bad_wind_row`: none before i is bad.
 use Rattle.std.proofs.Common.{◌-◌}
 use Rattle.records.proofs.FirstBad.{SearchInv}
-use Rattle.hurricane.specs.Checks.{windRowsOk}
+use Rattle.hurricane.specs.Checks.{wind_rows_ok}
 use Rattle.hurricane.proofs.checks.bad_wind_row.Given as goal
 
 abbrev pub invariant-loop-i : goal.invariant-loop-i
-invariant-loop-i l = SearchInv (windRowsOk l.winds) l.n l.i
+invariant-loop-i l = SearchInv (wind_rows_ok l.winds) l.n l.i
 
 abbrev pub decreases-loop-i : goal.decreases-loop-i
 decreases-loop-i l = l.n - l.i

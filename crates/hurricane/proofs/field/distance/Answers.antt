@@ -5,7 +5,7 @@ use lib.Signed.{lt_z_yes}
 use mir.Facts.{to_z-of_z}
 use mir.Syntax.{w64}
 use mir.Val.{SFits}
-use Rattle.hurricane.specs.Field.{distanceOf}
+use Rattle.hurricane.specs.Field.{distance_of}
 use Rattle.hurricane.proofs.FieldLaws.{across-fits, along-fits, across-square-fits, along-square-fits, squares-fit, squares-nn}
 use Rattle.hurricane.proofs.field.distance.Goals as goal
 
@@ -27,7 +27,7 @@ whole_root-requires c =
     simp (to_z-of_z, c.ranges.x, c.ranges.x0, c.ranges.y, c.ranges.y0, a, b, p, q, s) (lt_z_yes tt, squares-nn _ _ _ _ c.requires)
 
 pub returns : goal.returns
-unfolding distanceOf
+unfolding distance_of
 returns c =
     let a = across-fits _ _ _ _ c.requires in
     let b = along-fits _ _ _ _ c.requires in

@@ -9,7 +9,7 @@ use Rattle.records.proofs.GroupLaws.{same_point}
 use Rattle.hurricane.specs.declared.Hurricane.{Hurricane}
 use Rattle.hurricane.specs.declared.PlanePoint.{PlanePoint}
 use Rattle.hurricane.specs.Bounds.{ApartIn, HurricaneIn, PlanePointIn}
-use Rattle.hurricane.specs.Field.{distanceOf, hundredthsOf, deficitOf, windOf, angleFor, pointFor}
+use Rattle.hurricane.specs.Field.{distance_of, hundredths_of, deficit_of, wind_of, angle_for, point_for}
 use Rattle.hurricane.proofs.FieldLaws.{distance-nn}
 use Rattle.hurricane.proofs.field.point_for.Goals as goal
 
@@ -22,19 +22,19 @@ apart h p v w = record { x₀-in = v.x-in; y₀-in = v.y-in; x-in = w.x-in; y-in
 
 -- the distance as the machine reads it
 distance-read : (h : Hurricane) (p : PlanePoint) → SFits w64 h.x → SFits w64 h.y → SFits w64 p.x → SFits w64 p.y → (r : ℤ) → SFits w64 r
-    → r ≡ distanceOf (read h.x) (read h.y) (read p.x) (read p.y) → read r ≡ distanceOf h.x h.y p.x p.y
+    → r ≡ distance_of (read h.x) (read h.y) (read p.x) (read p.y) → read r ≡ distance_of h.x h.y p.x p.y
 distance-read h p hx hy px py r f e = to_z-of_z f ∙ (rw (to_z-of_z hx, to_z-of_z hy, to_z-of_z px, to_z-of_z py) at e)
 
 -- the place of the table, and the deficit by it
-place-is : (radius r d : ℤ) (m : ℕ) → SFits w64 radius → read r ≡ d → m ≡ nat_abs (hundredthsOf (read radius) (read r)) → m ≡ nat_abs (hundredthsOf radius d)
+place-is : (radius r d : ℤ) (m : ℕ) → SFits w64 radius → read r ≡ d → m ≡ nat_abs (hundredths_of (read radius) (read r)) → m ≡ nat_abs (hundredths_of radius d)
 place-is radius r d m f e k = rw (to_z-of_z f, e) at k
 
 deficit-is : (table : ℕ → ℤ) (central edge x : ℤ) (m n : ℕ) → SFits w64 central → SFits w64 edge → m ≡ n
-    → x ≡ deficitOf table (read central) (read edge) m → x ≡ deficitOf table central edge n
-deficit-is table central edge x m n f g e k = (rw (to_z-of_z f, to_z-of_z g) at k) ∙ ap (deficitOf table central edge) e
+    → x ≡ deficit_of table (read central) (read edge) m → x ≡ deficit_of table central edge n
+deficit-is table central edge x m n f g e k = (rw (to_z-of_z f, to_z-of_z g) at k) ∙ ap (deficit_of table central edge) e
 
 -- the angle beside the wind
-angle-is : (wind angle x w : ℤ) → SFits w64 angle → read wind ≡ w → x ≡ angleFor (read wind) (read angle) → x ≡ angleFor w angle
+angle-is : (wind angle x w : ℤ) → SFits w64 angle → read wind ≡ w → x ≡ angle_for (read wind) (read angle) → x ≡ angle_for w angle
 angle-is wind angle x w f e k = rw (e, to_z-of_z f) at k
 
 pub hundredths-m-requires : goal.hundredths-m-requires
@@ -47,7 +47,7 @@ hundredths-m-requires c =
     rw (to_z-of_z r, d) (h.radius-low, (h.radius-high, distance-nn _ _ _ _ (apart c.args.h c.args.p h p)))
 
 pub returns : goal.returns
-unfolding pointFor
+unfolding point_for
 returns c =
     let f : SFits w64 c.distance-r.result = sfits_of c.distance-r.type_inv in
     let d = distance-read c.args.h c.args.p (search rules) (search rules) (search rules) (search rules) c.distance-r.result f c.distance-r.ensures in
@@ -55,7 +55,7 @@ returns c =
     let w : SFits w64 c.wind_at-wind.result = sfits_of c.wind_at-wind.type_inv in
     let g : SFits w64 c.deficit-deficit.result = sfits_of c.deficit-deficit.type_inv in
     let a : SFits w64 c.angle_for-angle.result = sfits_of c.angle_for-angle.type_inv in
-    let v : c.wind_at-wind.result ≡ windOf c.args.winds.now (distanceOf c.args.h.x c.args.h.y c.args.p.x c.args.p.y) = rw d at c.wind_at-wind.ensures in
+    let v : c.wind_at-wind.result ≡ wind_of c.args.winds.now (distance_of c.args.h.x c.args.h.y c.args.p.x c.args.p.y) = rw d at c.wind_at-wind.ensures in
     same_point (to_z-of_z w ∙ v)
     (to_z-of_z a ∙ angle-is c.wind_at-wind.result c.args.p.angle c.angle_for-angle.result _ (search rules) (to_z-of_z w ∙ v) c.angle_for-angle.ensures)
     (to_z-of_z g

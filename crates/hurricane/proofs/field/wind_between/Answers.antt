@@ -4,7 +4,7 @@ use borrow.Author.Rules.{sfits_of}
 use mir.Facts.{to_z-of_z}
 use mir.Syntax.{w64}
 use mir.Val.{SFits, to_z, of_z}
-use Rattle.ranges.specs.Division.{floorDiv}
+use Rattle.ranges.specs.Division.{floor_div}
 use Rattle.hurricane.specs.declared.WindRow.{WindRow}
 use Rattle.hurricane.specs.Bounds.{BetweenRows}
 use Rattle.hurricane.specs.Field.{straight}
@@ -30,11 +30,11 @@ module _ (a b : WindRow) (r : ℤ) (h : BetweenRows a b r) (fr : SFits w64 r) (f
   span-is = let f = span_fits _ _ _ h in rw (to_z-of_z to, to_z-of_z from, to_z-of_z f)
 
   -- the quotient, and the sum with the first row's wind
-  sum_is : (q : ℤ) → SFits w64 q → q ≡ floorDiv (read (read (read b.wind -ℤ read a.wind) *ℤ read (read r -ℤ read a.radius))) (read (read b.radius -ℤ read a.radius))
+  sum_is : (q : ℤ) → SFits w64 q → q ≡ floor_div (read (read (read b.wind -ℤ read a.wind) *ℤ read (read r -ℤ read a.radius))) (read (read b.radius -ℤ read a.radius))
       → read a.wind +ℤ read q ≡ straight a b r
   sum_is q f e =
       let g = change-fits _ _ _ h in
-      let d : q ≡ floorDiv ((b.wind -ℤ a.wind) *ℤ (r -ℤ a.radius)) (b.radius -ℤ a.radius) = rw (span-is, top-is, to_z-of_z g) at e in
+      let d : q ≡ floor_div ((b.wind -ℤ a.wind) *ℤ (r -ℤ a.radius)) (b.radius -ℤ a.radius) = rw (span-is, top-is, to_z-of_z g) at e in
       rw (to_z-of_z start, to_z-of_z f, d) (straight-is _ _ _ h)
 
 pub overflow_mul-end : goal.overflow_mul-end

@@ -5,39 +5,39 @@ use mir.Syntax.{w64}
 use mir.Val.{SFits}
 use Rattle.ranges.proofs.LinearSolver.{zomega, says, ◌&◌}
 use Rattle.records.proofs.LimitLaws.{between}
-use Rattle.hurricane.specs.Limits.{pressureOk, dropOk, pressuresOk}
+use Rattle.hurricane.specs.Limits.{pressure_ok, drop_ok, pressures_ok}
 use Rattle.hurricane.proofs.limits.pressures_ok.Goals as goal
 
 -- the drop of two pressures that passed
-drop-fits : (x y : ℤ) → pressureOk x ≡ true → pressureOk y ≡ true → SFits w64 (y -ℤ x)
+drop-fits : (x y : ℤ) → pressure_ok x ≡ true → pressure_ok y ≡ true → SFits w64 (y -ℤ x)
 drop-fits x y i j =
     let p = between (pos 2500) (pos 3200) x i in
     let q = between (pos 2500) (pos 3200) y j in
     zomega (x ∷ y ∷ []) (p.from & p.to & q.from & q.to) (search says depth 20) (omega arith)
 
 pub returns-then-not-inside : goal.returns-then-not-inside
-unfolding pressuresOk
+unfolding pressures_ok
 returns-then-not-inside c = search rules
 
 pub returns-then-not-inside-2 : goal.returns-then-not-inside-2
-unfolding pressuresOk
+unfolding pressures_ok
 returns-then-not-inside-2 c = search rules
 
 pub overflow_sub-edge : goal.overflow_sub-edge
 overflow_sub-edge c =
-    let a : c.inside.result ≡ pressureOk c.args.central = simp (to_z-of_z, c.ranges.central) at c.inside.ensures in
-    let b : c.inside-2.result ≡ pressureOk c.args.edge = simp (to_z-of_z, c.ranges.edge) at c.inside-2.ensures in
+    let a : c.inside.result ≡ pressure_ok c.args.central = simp (to_z-of_z, c.ranges.central) at c.inside.ensures in
+    let b : c.inside-2.result ≡ pressure_ok c.args.edge = simp (to_z-of_z, c.ranges.edge) at c.inside-2.ensures in
     simp (to_z-of_z, c.ranges.central, c.ranges.edge) (drop-fits c.args.central c.args.edge (sym a ∙ c.if-not-inside.false) (sym b ∙ c.if-not-inside-2.false))
 
 pub returns : goal.returns
-unfolding pressuresOk
+unfolding pressures_ok
 returns c =
-    let a : c.inside.result ≡ pressureOk c.args.central = simp (to_z-of_z, c.ranges.central) at c.inside.ensures in
-    let b : c.inside-2.result ≡ pressureOk c.args.edge = simp (to_z-of_z, c.ranges.edge) at c.inside-2.ensures in
-    let i : pressureOk c.args.central ≡ true = sym a ∙ c.if-not-inside.false in
-    let j : pressureOk c.args.edge ≡ true = sym b ∙ c.if-not-inside-2.false in
+    let a : c.inside.result ≡ pressure_ok c.args.central = simp (to_z-of_z, c.ranges.central) at c.inside.ensures in
+    let b : c.inside-2.result ≡ pressure_ok c.args.edge = simp (to_z-of_z, c.ranges.edge) at c.inside-2.ensures in
+    let i : pressure_ok c.args.central ≡ true = sym a ∙ c.if-not-inside.false in
+    let j : pressure_ok c.args.edge ≡ true = sym b ∙ c.if-not-inside-2.false in
     let h = drop-fits c.args.central c.args.edge i j in
-    let d : c.inside-3.result ≡ dropOk (c.args.edge -ℤ c.args.central) =
+    let d : c.inside-3.result ≡ drop_ok (c.args.edge -ℤ c.args.central) =
     simp (to_z-of_z, c.ranges.central, c.ranges.edge, h) at c.inside-3.ensures
     in
     rw (i, j) d

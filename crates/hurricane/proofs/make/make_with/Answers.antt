@@ -4,21 +4,21 @@ use lib.Seq.{length-take-le}
 use Rattle.records.specs.declared.Check.TheVariants.{Pass}
 use Rattle.records.specs.Groups.{at}
 use Rattle.hurricane.specs.declared.Hurricane.{Hurricane}
-use Rattle.hurricane.specs.Groups.{siteCount}
-use Rattle.hurricane.specs.Checks.{makeCheck}
-use Rattle.hurricane.specs.Make.{asked, makeOf}
+use Rattle.hurricane.specs.Groups.{site_count}
+use Rattle.hurricane.specs.Checks.{make_check}
+use Rattle.hurricane.specs.Make.{asked, make_of}
 use Rattle.hurricane.proofs.MakeLaws.{make-in, made-left}
 use Rattle.hurricane.proofs.make.make_with.Goals as goal
 
 -- past the checks the points fit the room
-fits : (h : Hurricane) (winds sites : List ℤ) (room n : ℕ) → makeCheck h winds sites room ≡ Pass → n ≡ siteCount sites → 3 * n ≤ room
+fits : (h : Hurricane) (winds sites : List ℤ) (room n : ℕ) → make_check h winds sites room ≡ Pass → n ≡ site_count sites → 3 * n ≤ room
 fits h winds sites room n e k = rw k (make-in h winds sites room e).fits
 
-few : (h : Hurricane) (winds sites : List ℤ) (room n : ℕ) → makeCheck h winds sites room ≡ Pass → n ≡ siteCount sites → n ≤ 65
+few : (h : Hurricane) (winds sites : List ℤ) (room n : ℕ) → make_check h winds sites room ≡ Pass → n ≡ site_count sites → n ≤ 65
 few h winds sites room n e k = rw k (make-in h winds sites room e).to
 
 pub returns-in-Fail : goal.returns-in-Fail
-unfolding makeOf
+unfolding make_of
 returns-in-Fail c = rw (sym c.check_make-check.ensures ∙ c.in-Fail.is)
 
 pub overflow_mul-size : goal.overflow_mul-size

@@ -1,6 +1,6 @@
 -- `decimals::digit_count` meets its contract. Assumes nothing.
 use Rattle.std.proofs.Common.{◌≡◌, length, arith}
-use Rattle.listing.specs.Decimal.{decimalOf}
+use Rattle.listing.specs.Decimal.{decimal_of}
 use Rattle.listing.proofs.Decimal.{counted_none, counted-more, counted-all, length_most}
 use Rattle.listing.proofs.decimals.digit_count.Goals as goal
 
@@ -15,5 +15,5 @@ loop-power-preserved c =
 pub returns : goal.returns
 returns c =
     let h = c.loop-power.invariant in
-    let e : c.loop-power.count ≡ length (decimalOf c.args.n) = counted-all _ _ _ h.some h.known (omega arith) in
+    let e : c.loop-power.count ≡ length (decimal_of c.args.n) = counted-all _ _ _ h.some h.known (omega arith) in
     (e, omega (arith, length_most 19 c.args.n (omega arith)))

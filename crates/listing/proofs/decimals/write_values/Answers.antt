@@ -1,7 +1,7 @@
 -- `decimals::write_values` meets its contract. Assumes nothing.
 use Rattle.std.proofs.Common.{◌++◌, arith}
 use mir.Facts.{to_z-of_z}
-use Rattle.listing.specs.Decimal.{signedText}
+use Rattle.listing.specs.Decimal.{signed_text}
 use Rattle.listing.specs.Lines.{space, feed}
 use Rattle.listing.specs.Put.{Wrote}
 use Rattle.listing.proofs.Written.{wrote-next}
@@ -16,34 +16,34 @@ write_signed-second-requires c =
 pub write_signed-third-requires : goal.write_signed-third-requires
 write_signed-third-requires c =
     let l = values-length c.args.a c.args.b c.args.c in
-    let p : Wrote (signedText c.args.a ++ space) c.args.at c.args.out.now c.write_signed-second.result c.write_signed-second.new.out =
+    let p : Wrote (signed_text c.args.a ++ space) c.args.at c.args.out.now c.write_signed-second.result c.write_signed-second.new.out =
     simp (to_z-of_z, c.ranges.a) at c.write_signed-second.ensures
     in
-    let e = wrote-next (signedText c.args.a) 32 p in
+    let e = wrote-next (signed_text c.args.a) 32 p in
     simp (to_z-of_z, c.ranges.b) (omega (arith, e))
 
 pub write_signed-requires : goal.write_signed-requires
 write_signed-requires c =
     let l = values-length c.args.a c.args.b c.args.c in
-    let p : Wrote (signedText c.args.a ++ space) c.args.at c.args.out.now c.write_signed-second.result c.write_signed-second.new.out =
+    let p : Wrote (signed_text c.args.a ++ space) c.args.at c.args.out.now c.write_signed-second.result c.write_signed-second.new.out =
     simp (to_z-of_z, c.ranges.a) at c.write_signed-second.ensures
     in
-    let q : Wrote (signedText c.args.b ++ space) c.write_signed-second.result c.write_signed-second.new.out c.write_signed-third.result c.write_signed-third.new.out =
+    let q : Wrote (signed_text c.args.b ++ space) c.write_signed-second.result c.write_signed-second.new.out c.write_signed-third.result c.write_signed-third.new.out =
     simp (to_z-of_z, c.ranges.b) at c.write_signed-third.ensures
     in
-    let e = wrote-next (signedText c.args.a) 32 p in
-    let f = wrote-next (signedText c.args.b) 32 q in
+    let e = wrote-next (signed_text c.args.a) 32 p in
+    let f = wrote-next (signed_text c.args.b) 32 q in
     simp (to_z-of_z, c.ranges.c) (omega (arith, e, f))
 
 pub returns : goal.returns
 returns c =
-    let p : Wrote (signedText c.args.a ++ space) c.args.at c.args.out.now c.write_signed-second.result c.write_signed-second.new.out =
+    let p : Wrote (signed_text c.args.a ++ space) c.args.at c.args.out.now c.write_signed-second.result c.write_signed-second.new.out =
     simp (to_z-of_z, c.ranges.a) at c.write_signed-second.ensures
     in
-    let q : Wrote (signedText c.args.b ++ space) c.write_signed-second.result c.write_signed-second.new.out c.write_signed-third.result c.write_signed-third.new.out =
+    let q : Wrote (signed_text c.args.b ++ space) c.write_signed-second.result c.write_signed-second.new.out c.write_signed-third.result c.write_signed-third.new.out =
     simp (to_z-of_z, c.ranges.b) at c.write_signed-third.ensures
     in
-    let r : Wrote (signedText c.args.c ++ feed) c.write_signed-third.result c.write_signed-third.new.out c.write_signed.result c.write_signed.new.out =
+    let r : Wrote (signed_text c.args.c ++ feed) c.write_signed-third.result c.write_signed-third.new.out c.write_signed.result c.write_signed.new.out =
     simp (to_z-of_z, c.ranges.c) at c.write_signed.ensures
     in
     wrote-three (values-parts c.args.a c.args.b c.args.c) c.requires p q r

@@ -1,16 +1,16 @@
 -- `bad_point` meets its contract. Assumes nothing.
 use Rattle.std.proofs.Common.{sym, ap, ◌∙◌, arith}
-use Rattle.records.specs.Limits.{pointOk}
+use Rattle.records.specs.Limits.{point_ok}
 use Rattle.records.proofs.FirstBad.{search-on, search-hit, search-none}
 use Rattle.march.proofs.checks.bad_point.Goals as goal
 
 pub returns-then-not-point_ok : goal.returns-then-not-point_ok
 returns-then-not-point_ok c =
-    search-hit _ _ c.loop-i.i c.loop-i.invariant c.loop-i-test.true (sym (c.if-not-point_ok.ensures ∙ ap pointOk c.point_at-point.ensures))
+    search-hit _ _ c.loop-i.i c.loop-i.invariant c.loop-i-test.true (sym (c.if-not-point_ok.ensures ∙ ap point_ok c.point_at-point.ensures))
 
 pub loop-i-preserved : goal.loop-i-preserved
 loop-i-preserved c =
-    search-on _ _ c.loop-i.i c.loop-i.invariant c.loop-i-test.true (sym (c.if-not-point_ok.ensures ∙ ap pointOk c.point_at-point.ensures))
+    search-on _ _ c.loop-i.i c.loop-i.invariant c.loop-i-test.true (sym (c.if-not-point_ok.ensures ∙ ap point_ok c.point_at-point.ensures))
 
 pub returns : goal.returns
 returns c = search-none _ _ _ c.loop-i.invariant (omega arith)

@@ -13,29 +13,29 @@ use mir.Val.{SFits, to_z, of_z}
 use Rattle.ranges.specs.Bounds.{Sized}
 use Rattle.ranges.proofs.Fits.{sized-fits}
 use Rattle.records.specs.declared.Station.{Station}
-use Rattle.records.specs.CheckOrder.{firstBad}
-use Rattle.records.specs.Groups.{stationAt}
-use Rattle.records.specs.Limits.{lengthOk, shoreOk}
+use Rattle.records.specs.CheckOrder.{first_bad}
+use Rattle.records.specs.Groups.{station_at}
+use Rattle.records.specs.Limits.{length_ok, shore_ok}
 use Rattle.records.proofs.LimitLaws.{nn-sized}
 use Rattle.records.proofs.FirstBad.{search-on, search-hit, search-none, none-bad}
-use Rattle.march.specs.Checks.{stationsOk, spacingOk}
+use Rattle.march.specs.Checks.{stations_ok, spacing_ok}
 use Rattle.march.proofs.ChecksPassed.{station-in}
 use Rattle.march.proofs.checks.bad_spacing.Goals as goal
 use Rattle.march.proofs.checks.bad_spacing.Goals.{After-spacing_ok}
 
-module _ (l : List ℤ) (n : ℕ) (e : firstBad (stationsOk l) n 0 ≡ 0) where
-  small : (i : ℕ) → i < n → Sized (pos 6400) (stationAt l i).distance
-  small i h = nn-sized (station-in (stationAt l i) (none-bad (stationsOk l) n 0 e i (omega arith) (omega arith))).distance
+module _ (l : List ℤ) (n : ℕ) (e : first_bad (stations_ok l) n 0 ≡ 0) where
+  small : (i : ℕ) → i < n → Sized (pos 6400) (station_at l i).distance
+  small i h = nn-sized (station-in (station_at l i) (none-bad (stations_ok l) n 0 e i (omega arith) (omega arith))).distance
 
   -- of a point that was read
-  read-small : (i : ℕ) (s : Station) → i < n → s ≡ stationAt l i → Sized (pos 6400) s.distance
+  read-small : (i : ℕ) (s : Station) → i < n → s ≡ station_at l i → Sized (pos 6400) s.distance
   read-small i s h q = subst (λ (s : Station). Sized (pos 6400) s.distance) (sym q) (small i h)
 
-spacing-is : (f : Bool) (a b : Station) (k n : ℕ) (l : List ℤ) (i : ℕ) → SFits w64 a.distance → SFits w64 b.distance → k ≡ i - 1 → a ≡ stationAt l k → b ≡ stationAt l i →
-    f ≡ ((eqb i 0 || lengthOk (to_z w64 (of_z w64 a.distance) -ℤ to_z w64 (of_z w64 b.distance))) && (not (eqb (i + 1) n) || shoreOk (to_z w64 (of_z w64 b.distance)))) → f ≡ spacingOk n l i
-unfolding spacingOk
+spacing-is : (f : Bool) (a b : Station) (k n : ℕ) (l : List ℤ) (i : ℕ) → SFits w64 a.distance → SFits w64 b.distance → k ≡ i - 1 → a ≡ station_at l k → b ≡ station_at l i →
+    f ≡ ((eqb i 0 || length_ok (to_z w64 (of_z w64 a.distance) -ℤ to_z w64 (of_z w64 b.distance))) && (not (eqb (i + 1) n) || shore_ok (to_z w64 (of_z w64 b.distance)))) → f ≡ spacing_ok n l i
+unfolding spacing_ok
 spacing-is f a b k n l i x y p q r e =
-    let z : f ≡ ((eqb i 0 || lengthOk (a.distance -ℤ b.distance)) && (not (eqb (i + 1) n) || shoreOk b.distance)) = simp (to_z-of_z, x, y) at e in
+    let z : f ≡ ((eqb i 0 || length_ok (a.distance -ℤ b.distance)) && (not (eqb (i + 1) n) || shore_ok b.distance)) = simp (to_z-of_z, x, y) at e in
     rw (q, r, p) at z
 
 pub spacing_ok-requires : goal.spacing_ok-requires
@@ -46,7 +46,7 @@ spacing_ok-requires c =
     let y : SFits w64 c.station_at-here.result.distance = sized-fits (le_z_yes tt) b in
     simp (to_z-of_z, x, y) (c.loop-i-test.true, (a, b))
 
-flag : (c : After-spacing_ok) → c.spacing_ok.result ≡ spacingOk c.args.n c.args.points.now c.loop-i.i
+flag : (c : After-spacing_ok) → c.spacing_ok.result ≡ spacing_ok c.args.n c.args.points.now c.loop-i.i
 flag c =
     let a = read-small _ _ c.requires.1 c.place_before.result c.station_at-before.result (omega arith) c.station_at-before.ensures in
     let b = read-small _ _ c.requires.1 c.loop-i.i c.station_at-here.result c.loop-i-test.true c.station_at-here.ensures in

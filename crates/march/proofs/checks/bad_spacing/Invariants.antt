@@ -1,11 +1,11 @@
 -- The search that is left gives what the whole search gives; the turns that are left fall.
 use Rattle.std.proofs.Common.{◌-◌}
 use Rattle.records.proofs.FirstBad.{SearchInv}
-use Rattle.march.specs.Checks.{spacingOk}
+use Rattle.march.specs.Checks.{spacing_ok}
 use Rattle.march.proofs.checks.bad_spacing.Given as goal
 
 abbrev pub invariant-loop-i : goal.invariant-loop-i
-invariant-loop-i l = SearchInv (spacingOk l.n l.points) l.n l.i
+invariant-loop-i l = SearchInv (spacing_ok l.n l.points) l.n l.i
 
 abbrev pub decreases-loop-i : goal.decreases-loop-i
 decreases-loop-i l = l.n - l.i

@@ -1,17 +1,17 @@
 -- `places_ok` meets its contract. Assumes nothing.
 use borrow.Author.Tests.{eq-eqb, ne_eqb}
 use Rattle.records.proofs.GroupLaws.{halves, odd}
-use Rattle.march.specs.Checks.{placesOk}
+use Rattle.march.specs.Checks.{places_ok}
 use Rattle.march.proofs.checks.places_ok.Goals as goal
 
 pub returns-then-places-eq0 : goal.returns-then-places-eq0
-unfolding placesOk
+unfolding places_ok
 returns-then-places-eq0 c = simp (eq-eqb _ _ c.if-places-eq0.true)
 
 pub returns-then-places-ne0 : goal.returns-then-places-ne0
-unfolding placesOk
+unfolding places_ok
 returns-then-places-ne0 c = simp (ne_eqb _ _ c.if-places-eq0.false, odd _ c.args.n c.if-places-ne0.true)
 
 pub returns : goal.returns
-unfolding placesOk
+unfolding places_ok
 returns c = rw (ne_eqb _ _ c.if-places-eq0.false) (halves _ c.args.n c.if-places-ne0.false)

@@ -1,21 +1,21 @@
--- `endAt` meets its contract. Assumes nothing.
+-- `end_at` meets its contract. Assumes nothing.
 use mathlib.Core.Path.{◌≡◌, sym, subst}
 use mir.Facts.{to_z-of_z}
 use mir.Syntax.{w64}
 use mir.Val.{SFits}
 use Rattle.std.proofs.Common.{rules}
-use Rattle.forcing.specs.Stress.{pointStress}
-use Rattle.march.specs.March.{endAt}
+use Rattle.forcing.specs.Stress.{point_stress}
+use Rattle.march.specs.March.{end_at}
 use Rattle.march.specs.MarchBounds.{PointIn}
 use Rattle.march.proofs.MarchFits.{wind-fits, angle-fits}
 use Rattle.march.proofs.march.end_at.Goals as goal
 
 pub returns : goal.returns
-unfolding endAt
+unfolding end_at
 returns c =
     let p = c.point_at-point.result in
     let i : PointIn c.point_at-point.result = subst PointIn (sym c.point_at-point.ensures) c.requires.1.1.1 in
-    let s : c.point_stress-stress.result ≡ pointStress p.wind p.angle = simp (to_z-of_z, wind-fits i, angle-fits i) at c.point_stress-stress.ensures in
+    let s : c.point_stress-stress.result ≡ point_stress p.wind p.angle = simp (to_z-of_z, wind-fits i, angle-fits i) at c.point_stress-stress.ensures in
     let distance : SFits w64 c.station_at-station.result.distance = search rules in
     let depth : SFits w64 c.station_at-station.result.depth = search rules in
     let deficit : SFits w64 c.point_at-point.result.deficit = search rules in

@@ -3,13 +3,13 @@ use mathlib.Core.Path.{◌≡◌, ◌∙◌}
 use native.Mathlib.Omega.{arith}
 use Rattle.march.proofs.MarchFits.{march-between, zero-setup}
 use Rattle.march.proofs.MarchLaws.{march-start, march-on, march-stop, march-all}
-use Rattle.march.proofs.MarchSteps.{betweenAt, between_is, between-setup, as-segments}
+use Rattle.march.proofs.MarchSteps.{between_at, between_is, between-setup, as-segments}
 use Rattle.march.proofs.march.march.Goals as goal
 use Rattle.march.proofs.march.march.Goals.{After-segment_between-answer}
 
 -- the answer is the definition's, at the ends and the row that were read
 answer-is : (c : After-segment_between-answer) →
-    betweenAt c.setting_of-k.result c.args.points.now c.args.winds.now c.args.rows.now c.loop-i.i c.loop-i.setup ≡ c.segment_between-answer.result
+    between_at c.setting_of-k.result c.args.points.now c.args.winds.now c.args.rows.now c.loop-i.i c.loop-i.setup ≡ c.segment_between-answer.result
 answer-is c =
     between_is _ _ _ _ c.loop-i.i c.loop-i.setup _ _ _ _ c.segment_between-answer.ensures c.loop-i.invariant.sea-is c.end_at-shore.ensures c.row_at-row.ensures
 

@@ -5,15 +5,15 @@ use Rattle.ranges.specs.declared.Range.{Range}
 use Rattle.segment.specs.Segment.{SetupIn}
 use Rattle.march.specs.declared.End.{End}
 use Rattle.march.specs.declared.Setting.{Setting}
-use Rattle.march.specs.March.{endAt}
+use Rattle.march.specs.March.{end_at}
 use Rattle.march.proofs.MarchLaws.{MarchInv}
-use Rattle.march.proofs.MarchSteps.{betweenAt}
+use Rattle.march.proofs.MarchSteps.{between_at}
 use Rattle.march.proofs.march.march.Given as goal
 
 -- the march that is left gives what the whole march gives; `sea` is the end where the next segment begins, and `s` the setup before it
 pub record Held (k : Setting) (points winds rows : List ℤ) (n : ℕ) (work : List ℤ) (sea : End) (s : Range) (i : ℕ) : Type 0 where
-  pub march : MarchInv (betweenAt k points winds rows) n work s i
-  pub sea-is : sea ≡ endAt points winds i
+  pub march : MarchInv (between_at k points winds rows) n work s i
+  pub sea-is : sea ≡ end_at points winds i
   pub setup-in : SetupIn s
 
 abbrev pub invariant-loop-i : goal.invariant-loop-i

@@ -1,4 +1,4 @@
--- `settingOf` meets its contract. Assumes nothing.
+-- `setting_of` meets its contract. Assumes nothing.
 use mathlib.Core.Path.{◌≡◌}
 use lib.IntN.{◌+ℤ◌}
 use lib.Signed.{le_z_yes}
@@ -7,7 +7,7 @@ use mir.Syntax.{w64}
 use mir.Val.{SFits}
 use Rattle.std.proofs.Common.{rules}
 use Rattle.ranges.proofs.Fits.{sized-fits}
-use Rattle.forcing.specs.Quadrant.{sineOf}
+use Rattle.forcing.specs.Quadrant.{sine_of}
 use Rattle.forcing.proofs.QuadrantLaws.{angle-fits}
 use Rattle.march.proofs.MarchFits.{latitude-angle, level_in}
 use Rattle.march.proofs.march.setting_of.Goals as goal
@@ -22,5 +22,5 @@ returns c =
     let seconds : SFits w64 c.args.call.closing.seconds = sized-fits (le_z_yes tt) i.seconds in
     let level : SFits w64 (c.args.call.head.initial +ℤ c.args.call.closing.tide) = sized-fits (le_z_yes tt) (level_in c.args.call.head c.args.call.closing i) in
     let r : SFits w64 c.sine.result = search rules in
-    let e : c.sine.result ≡ sineOf c.args.call.head.latitude = simp (to_z-of_z, latitude) at c.sine.ensures in
+    let e : c.sine.result ≡ sine_of c.args.call.head.latitude = simp (to_z-of_z, latitude) at c.sine.ensures in
     simp (to_z-of_z, r, friction, initial, tide, seconds, level) (simp e)

@@ -10,8 +10,8 @@ use Rattle.std.proofs.Common.{rules}
 use Rattle.ranges.specs.Bounds.{Sized}
 use Rattle.ranges.proofs.Fits.{sized-fits}
 use Rattle.records.specs.declared.Point.{Point}
-use Rattle.records.specs.Groups.{pointAt}
-use Rattle.segment.specs.Segment.{shoreBase}
+use Rattle.records.specs.Groups.{point_at}
+use Rattle.segment.specs.Segment.{shore_base}
 use Rattle.march.proofs.MarchFits.{level_in}
 use Rattle.march.proofs.take.shore_of.Goals as goal
 
@@ -34,6 +34,6 @@ returns c =
     let level : SFits w64 (c.args.call.head.initial +ℤ c.args.call.closing.tide) = sized-fits (le_z_yes tt) (level_in c.args.call.head c.args.call.closing m.setting) in
     let deficit : SFits w64 c.point_at-shore.result.deficit = search rules in
     let f : SFits w64 c.shore_base.result = search rules in
-    let e : c.shore_base.result ≡ shoreBase (c.args.call.head.initial +ℤ c.args.call.closing.tide) c.point_at-shore.result.deficit = simp (to_z-of_z, initial, tide, level, deficit) at c.shore_base.ensures in
+    let e : c.shore_base.result ≡ shore_base (c.args.call.head.initial +ℤ c.args.call.closing.tide) c.point_at-shore.result.deficit = simp (to_z-of_z, initial, tide, level, deficit) at c.shore_base.ensures in
     simp (to_z-of_z, f)
-    (e ∙ ap (λ (q : Point). shoreBase (c.args.call.head.initial +ℤ c.args.call.closing.tide) q.deficit) (c.point_at-shore.ensures ∙ ap (pointAt c.args.winds.now) c.requires.1))
+    (e ∙ ap (λ (q : Point). shore_base (c.args.call.head.initial +ℤ c.args.call.closing.tide) q.deficit) (c.point_at-shore.ensures ∙ ap (point_at c.args.winds.now) c.requires.1))

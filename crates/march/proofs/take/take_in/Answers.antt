@@ -12,9 +12,9 @@ use Rattle.records.specs.Shapes.{Traverse, Record, traverse, storm}
 use Rattle.records.proofs.GroupLaws.{wholes-exact}
 use Rattle.records.specs.declared.Check.TheVariants.{Pass}
 use Rattle.march.specs.Given.{Given, given, segments}
-use Rattle.march.specs.Checks.{placesOk, checkOf}
+use Rattle.march.specs.Checks.{places_ok, check_of}
 use Rattle.march.specs.MarchBounds.{MarchIn}
-use Rattle.march.specs.Take.{takeOf}
+use Rattle.march.specs.Take.{take_of}
 use Rattle.march.proofs.ChecksPassed.{Passed, passed}
 use Rattle.march.proofs.MarchFits.{march-in}
 use Rattle.march.proofs.TakeLaws.{places-half, accept-in, taken-stopped, taken-accepted}
@@ -22,7 +22,7 @@ use Rattle.march.proofs.take.take_in.Goals as goal
 use Rattle.march.proofs.take.take_in.Goals.{After-whole_groups-n}
 
 pub returns-in-Fail : goal.returns-in-Fail
-unfolding takeOf
+unfolding take_of
 returns-in-Fail c = rw (sym c.check_all-check.ensures ∙ c.in-Fail.is)
 
 -- ---- past the checks
@@ -40,7 +40,7 @@ module _ (g : After-whole_groups-n) where
   abbrev n : ℕ
   n = g.whole_groups-n.result
 
-  all : checkOf lent ≡ Pass
+  all : check_of lent ≡ Pass
   all = sym g.check_all-check.ensures ∙ g.in_default.is
 
   pass : Passed g.args.most t r g.args.call.state g.args.rows.now (length g.args.setup.now)
@@ -58,8 +58,8 @@ module _ (g : After-whole_groups-n) where
   whole : length g.args.rows.now ≡ 3 * n
   whole = wholes-exact _ n g.whole_groups-n.ensures some
 
-  places : placesOk (length g.args.setup.now) n ≡ true
-  places = ap (placesOk (length g.args.setup.now)) many ∙ pass.lent.places-are
+  places : places_ok (length g.args.setup.now) n ≡ true
+  places = ap (places_ok (length g.args.setup.now)) many ∙ pass.lent.places-are
 
   marches : MarchIn t r g.args.rows.now n
   marches = subst (MarchIn t r g.args.rows.now) (sym many) (march-in _ _ _ _ _ _ pass)

@@ -4,7 +4,7 @@ use mir.Facts.{to_z-of_z}
 use mir.Syntax.{w64}
 use mir.Val.{SFits}
 use Rattle.ranges.specs.Fraction.{absℤ}
-use Rattle.ranges.specs.Damped.{dampedFloor}
+use Rattle.ranges.specs.Damped.{damped_floor}
 use Rattle.ranges.proofs.DampedFits.{dd-fits, square-fits, abs-fits, drag-fits, sum_fits, top-fits, bottom-fits, bottom-pos}
 use Rattle.ranges.proofs.drag.damped_floor.Goals as goal
 
@@ -36,7 +36,7 @@ floor_div-requires c =
     ) (bottom-pos c.requires)
 
 pub returns : goal.returns
-unfolding dampedFloor
+unfolding damped_floor
 returns c =
     let s : c.size.result ≡ absℤ c.args.v = simp (to_z-of_z, c.ranges.v) at c.size.ensures in
     let r : SFits w64 c.floor_div.result = record { sfits = c.floor_div.type_inv } in

@@ -8,7 +8,7 @@ use mir.Val.{SFits, to_z, of_z}
 use Rattle.ranges.specs.declared.Range.{Range}
 use Rattle.ranges.specs.Bounds.{DampedSpan}
 use Rattle.ranges.specs.Range.{Positive, lesser}
-use Rattle.ranges.specs.Damped.{dampedLow}
+use Rattle.ranges.specs.Damped.{damped_low}
 use Rattle.ranges.proofs.DampedOutward.{least-with-zero, least-without}
 use Rattle.ranges.proofs.Fits.{sized-fits}
 use Rattle.ranges.proofs.drag.damped_least.Goals as goal
@@ -20,10 +20,10 @@ held x = to_z w64 (of_z w64 x)
 module _ {c f : ℤ} {v δ : Range} (s : DampedSpan c v f δ) (hc : SFits w64 c) (hf : SFits w64 f) where
   -- both ends of v tried
   ends : {a b r : ℤ} → SFits w64 a → SFits w64 b →
-      a ≡ dampedLow (held c) (held v.low) (held f) δ →
-      b ≡ dampedLow (held c) (held v.high) (held f) δ →
+      a ≡ damped_low (held c) (held v.low) (held f) δ →
+      b ≡ damped_low (held c) (held v.high) (held f) δ →
       r ≡ lesser (held a) (held b) →
-      r ≡ lesser (dampedLow c v.low f δ) (dampedLow c v.high f δ)
+      r ≡ lesser (damped_low c v.low f δ) (damped_low c v.high f δ)
   ends ha hb ea eb er =
       let vl : SFits w64 v.low = sized-fits (le_z_yes tt) s.low.v-in in
       let vh : SFits w64 v.high = sized-fits (le_z_yes tt) s.high.v-in in

@@ -7,8 +7,8 @@ use lib.Signed.{◌≤ℤ◌}
 use mir.Facts.{to_z-of_z}
 use mir.Syntax.{w64}
 use mir.Val.{SFits, to_z, of_z}
-use Rattle.ranges.specs.Division.{floorDiv}
-use Rattle.ranges.specs.Root.{squareRoot, wholeRoot}
+use Rattle.ranges.specs.Division.{floor_div}
+use Rattle.ranges.specs.Root.{square_root, whole_root}
 use Rattle.ranges.proofs.DivisionLaws.{floor-nat}
 use Rattle.ranges.proofs.RootLaws.{below-by-squares, square-root-is}
 use Rattle.ranges.proofs.root.whole_root.Goals as goal
@@ -18,7 +18,7 @@ abbrev quotient : ℤ → ℤ → ℕ
 quotient k n = nat_abs n / nat_abs k
 
 module _ {k n d : ℤ} (hk : SFits w64 k) (hn : SFits w64 n) (nn : pos 0 ≤ℤ n) (hd : SFits w64 d)
-    (e : d ≡ floorDiv (to_z w64 (of_z w64 n)) (to_z w64 (of_z w64 k))) where
+    (e : d ≡ floor_div (to_z w64 (of_z w64 n)) (to_z w64 (of_z w64 k))) where
   divided : d ≡ pos (quotient k n)
   divided = (simp (to_z-of_z, hn, hk) at e) ∙ floor-nat _ _ nn
 
@@ -29,13 +29,13 @@ module _ {k n d : ℤ} (hk : SFits w64 k) (hn : SFits w64 n) (nn : pos 0 ≤ℤ 
   cast : to_z w64 (of_z w64 d) ≡ pos (quotient k n)
   cast = to_z-of_z hd ∙ divided
 
-  root : {r : ℕ} → r ≡ squareRoot (nat_abs (to_z w64 (of_z w64 d))) → r ≡ squareRoot (quotient k n)
+  root : {r : ℕ} → r ≡ square_root (nat_abs (to_z w64 (of_z w64 d))) → r ≡ square_root (quotient k n)
   root f = rw cast at f
 
-  root-fits : {r : ℕ} → r ≡ squareRoot (nat_abs (to_z w64 (of_z w64 d))) → SFits w64 (pos r)
+  root-fits : {r : ℕ} → r ≡ square_root (nat_abs (to_z w64 (of_z w64 d))) → SFits w64 (pos r)
   root-fits f =
       let q = quotient k n in
-      let l = below-by-squares (squareRoot q) (2 ^ 32) (omega (arith, (square-root-is q).within, small)) in
+      let l = below-by-squares (square_root q) (2 ^ 32) (omega (arith, (square-root-is q).within, small)) in
       record { sfits = omega (arith, root f) }
 
 pub overflow_cast-result : goal.overflow_cast-result
@@ -43,7 +43,7 @@ overflow_cast-result c =
     root-fits c.ranges.k c.ranges.n c.requires.1 (record { sfits = c.floor_div-q.type_inv }) c.floor_div-q.ensures c.square_root.ensures
 
 pub returns : goal.returns
-unfolding wholeRoot
+unfolding whole_root
 returns c =
     to_z-of_z (root-fits c.ranges.k c.ranges.n c.requires.1 (record { sfits = c.floor_div-q.type_inv }) c.floor_div-q.ensures c.square_root.ensures)
     ∙ ap pos (root c.ranges.k c.ranges.n c.requires.1 (record { sfits = c.floor_div-q.type_inv }) c.floor_div-q.ensures c.square_root.ensures)

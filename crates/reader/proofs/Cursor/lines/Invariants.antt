@@ -2,9 +2,9 @@
 -- of the line from here is the rest from its start. Of the lines: the rest of them from here is the rest from the cursor. Of both: the numbers
 -- before the next place are those that were kept. Assumes nothing.
 use Rattle.std.proofs.Common.{◌≡◌, ◌-◌, ◌≤◌, true, [], length, take}
-use Rattle.reader.specs.Lines.{valuesAt, linesAt}
+use Rattle.reader.specs.Lines.{values_at, lines_at}
 use Rattle.reader.proofs.Digits.{Scan}
-use Rattle.reader.proofs.Laws.{Keeping, numberPlace}
+use Rattle.reader.proofs.Laws.{Keeping, number_place}
 use Rattle.reader.proofs.Cursor.lines.Given as goal
 
 abbrev pub invariant-loop-d : goal.invariant-loop-d
@@ -22,19 +22,19 @@ invariant-loop-k l = record {
   within : l.k ≤ l.width;
   line : l.c.line ≡ l.initial.c.line;
   keeping : Keeping l.initial.out l.initial.kept.next l.out l.kept.next;
-  place : l.kept.next ≡ numberPlace l.width l.shared l.i l.k;
-  rest : valuesAt l.s l.shared l.i (l.width - l.k) l.k l.c.at (take l.kept.next l.out) l.kept.same
-      ≡ valuesAt l.s l.shared l.i l.width 0 l.initial.c.at (take l.initial.kept.next l.initial.out) l.initial.kept.same;
+  place : l.kept.next ≡ number_place l.width l.shared l.i l.k;
+  rest : values_at l.s l.shared l.i (l.width - l.k) l.k l.c.at (take l.kept.next l.out) l.kept.same
+      ≡ values_at l.s l.shared l.i l.width 0 l.initial.c.at (take l.initial.kept.next l.initial.out) l.initial.kept.same;
 }
 
 abbrev pub invariant-lines : goal.invariant-lines
 invariant-lines l = record {
   within : l.i ≤ l.n;
   keeping : Keeping l.fn.out 0 l.out l.kept.next;
-  place : l.kept.next ≡ numberPlace l.width l.shared l.i 0;
+  place : l.kept.next ≡ number_place l.width l.shared l.i 0;
   same : l.kept.same ≡ true;
-  rest : linesAt l.s l.width l.shared (l.n - l.i) l.i l.c.at l.c.line (take l.kept.next l.out)
-      ≡ linesAt l.s l.width l.shared l.n 0 l.fn.self.at l.fn.self.line [];
+  rest : lines_at l.s l.width l.shared (l.n - l.i) l.i l.c.at l.c.line (take l.kept.next l.out)
+      ≡ lines_at l.s l.width l.shared l.n 0 l.fn.self.at l.fn.self.line [];
 }
 
 abbrev pub decreases-lines : goal.decreases-lines

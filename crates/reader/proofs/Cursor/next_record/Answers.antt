@@ -1,6 +1,6 @@
 -- `Cursor::next_record` meets its contract. Assumes nothing.
 use Rattle.std.proofs.Common.{refl, sym, ◌∙◌, arith}
-use Rattle.records.specs.Limits.{mostPoints}
+use Rattle.records.specs.Limits.{most_points}
 use Rattle.reader.proofs.StormLaws.{counts-in, next-counts, next-lent, next-end, next-none, next-read, next-refused}
 use Rattle.reader.proofs.Cursor.next_record.Goals as goal
 
@@ -8,10 +8,10 @@ pub returns-then-not-count_ok : goal.returns-then-not-count_ok
 returns-then-not-count_ok c = next-counts _ _ _ _ _ _ (sym c.count_ok.ensures ∙ c.if-not-count_ok.true) c.refused_next.ensures
 
 pub overflow_mul-n : goal.overflow_mul-n
-overflow_mul-n c = omega (arith, counts-in mostPoints _ (sym c.count_ok.ensures ∙ c.if-not-count_ok.false))
+overflow_mul-n c = omega (arith, counts-in most_points _ (sym c.count_ok.ensures ∙ c.if-not-count_ok.false))
 
 pub overflow_add-n : goal.overflow_add-n
-overflow_add-n c = omega (arith, counts-in mostPoints _ (sym c.count_ok.ensures ∙ c.if-not-count_ok.false))
+overflow_add-n c = omega (arith, counts-in most_points _ (sym c.count_ok.ensures ∙ c.if-not-count_ok.false))
 
 pub returns-then-numbers-n : goal.returns-then-numbers-n
 returns-then-numbers-n c = next-lent _ _ _ _ _ _ (sym c.count_ok.ensures ∙ c.if-not-count_ok.false) c.if-numbers-n.true c.refused_next-then-numbers-n.ensures

@@ -1,8 +1,8 @@
 -- `store_point` meets its contract. Assumes nothing.
 use Rattle.std.proofs.Common.{rules}
-use Rattle.records.specs.Groups.{putPoint}
+use Rattle.records.specs.Groups.{put_point}
 use Rattle.records.proofs.groups.store_point.Goals as goal
 
 pub returns : goal.returns
-unfolding putPoint
+unfolding put_point
 returns c = search rules

@@ -1,12 +1,12 @@
 -- `seconds_ok` meets its contract. Assumes nothing.
 use Rattle.std.proofs.Common.{rules}
-use Rattle.records.specs.Limits.{secondsOk}
+use Rattle.records.specs.Limits.{seconds_ok}
 use Rattle.records.proofs.limits.seconds_ok.Goals as goal
 
 pub returns-then-started : goal.returns-then-started
-unfolding secondsOk
+unfolding seconds_ok
 returns-then-started c = search rules
 
 pub returns : goal.returns
-unfolding secondsOk
+unfolding seconds_ok
 returns c = search rules

@@ -6,7 +6,7 @@ use Rattle.ranges.specs.declared.Range.{Range}
 use Rattle.ranges.proofs.Fits.{sized-fits}
 use Rattle.segment.specs.declared.Site.{Site}
 use Rattle.segment.specs.declared.Weather.{Weather}
-use Rattle.segment.specs.Segment.{depthBase, depthOf, SiteIn, WeatherIn, SetupIn}
+use Rattle.segment.specs.Segment.{depth_base, depth_of, SiteIn, WeatherIn, SetupIn}
 use Rattle.segment.proofs.SegmentFits.{depths-in, level_in, still-in, deficits-in, base-in, depth-top-in}
 use Rattle.segment.proofs.formulas.depth_range.Goals as goal
 
@@ -39,13 +39,13 @@ module _ {a : Site} {w : Weather} {s : Range} (i : SiteIn a) (j : WeatherIn w) (
   deficits : FitsSigned w64 (pos 57 *ℤ w.deficits)
   deficits = sized-fits (le_z_yes tt) (deficits-in i j)
 
-  base : FitsSigned w64 (depthBase a w)
+  base : FitsSigned w64 (depth_base a w)
   base = sized-fits (le_z_yes tt) (base-in i j)
 
-  low : FitsSigned w64 (depthBase a w +ℤ s.low)
+  low : FitsSigned w64 (depth_base a w +ℤ s.low)
   low = sized-fits (le_z_yes tt) (depth-top-in i j k.low)
 
-  high : FitsSigned w64 (depthBase a w +ℤ s.high)
+  high : FitsSigned w64 (depth_base a w +ℤ s.high)
   high = sized-fits (le_z_yes tt) (depth-top-in i j k.high)
 
 pub overflow_add-top : goal.overflow_add-top
@@ -63,7 +63,7 @@ overflow_add-top-2 c =
     simp (to_z-of_z, df i j k, lf i j k, pf i j k, depths i j k, level i j k, still i j k, deficits i j k, base i j k, sh i j k) (high i j k)
 
 pub returns : goal.returns
-unfolding depthOf
+unfolding depth_of
 returns c =
     let i = c.requires.0 in
     let j = c.requires.1 in

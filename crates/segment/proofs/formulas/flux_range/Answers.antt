@@ -3,13 +3,13 @@ use Rattle.std.proofs.Common.{◌≡◌, ◌∙◌, ap, false, w64, FitsSigned}
 use Rattle.std.proofs.lemmas.Int.{to_z-of_z}
 use lib.Signed.{le_z_yes}
 use Rattle.ranges.specs.declared.Range.{Range}
-use Rattle.ranges.specs.Damped.{dampedOf}
+use Rattle.ranges.specs.Damped.{damped_of}
 use Rattle.ranges.proofs.Fits.{sized-fits}
 use Rattle.records.specs.declared.Row.{Row}
-use Rattle.records.specs.Rows.{rowFlux}
+use Rattle.records.specs.Rows.{row_flux}
 use Rattle.segment.specs.declared.Site.{Site}
 use Rattle.segment.specs.declared.Weather.{Weather}
-use Rattle.segment.specs.Segment.{drag, segmentForce, fluxOf, SiteIn, WeatherIn, RowIn}
+use Rattle.segment.specs.Segment.{drag, segment_force, flux_of, SiteIn, WeatherIn, RowIn}
 use Rattle.segment.proofs.SegmentFits.{drag-in, damped-in}
 use Rattle.segment.proofs.formulas.flux_range.Goals as goal
 
@@ -37,7 +37,7 @@ module _ {a : Site} {w : Weather} {v : Row} (i : SiteIn a) (j : WeatherIn w) (k 
   drags = sized-fits (le_z_yes tt) (drag-in i j)
 
 pub returns-then-first : goal.returns-then-first
-unfolding fluxOf
+unfolding flux_of
 returns-then-first c =
     let i = c.requires.0 in
     let j = c.requires.1 in
@@ -56,16 +56,16 @@ damped-requires c =
     let i = c.requires.0 in
     let j = c.requires.1 in
     let k = c.requires.2 in
-    let e : c.force-force.result ≡ segmentForce false c.args.weather c.args.row = simp (to_z-of_z, ws i j k, vc i j k, wc i j k) at c.force-force.ensures in
+    let e : c.force-force.result ≡ segment_force false c.args.weather c.args.row = simp (to_z-of_z, ws i j k, vc i j k, wc i j k) at c.force-force.ensures in
     simp (to_z-of_z, sf i j k, ws i j k, drags i j k, vl i j k, vh i j k) (rw e (damped-in i j k c.requires.3))
 
 pub returns : goal.returns
-unfolding fluxOf
+unfolding flux_of
 returns c =
     let i = c.requires.0 in
     let j = c.requires.1 in
     let k = c.requires.2 in
-    let e : c.force-force.result ≡ segmentForce false c.args.weather c.args.row = simp (to_z-of_z, ws i j k, vc i j k, wc i j k) at c.force-force.ensures in
+    let e : c.force-force.result ≡ segment_force false c.args.weather c.args.row = simp (to_z-of_z, ws i j k, vc i j k, wc i j k) at c.force-force.ensures in
     rw c.if-first.false
     ((simp (to_z-of_z, sf i j k, ws i j k, drags i j k, vl i j k, vh i j k) at c.damped.ensures)
-    ∙ ap (λ (z : Range). dampedOf (drag c.args.site c.args.weather) (rowFlux c.args.row) z c.args.depth) e)
+    ∙ ap (λ (z : Range). damped_of (drag c.args.site c.args.weather) (row_flux c.args.row) z c.args.depth) e)

@@ -5,23 +5,23 @@ use borrow.Author.Rules.{sfits_of}
 use Rattle.std.proofs.lemmas.Int.{to_z-of_z}
 use lib.Signed.{le_z_yes}
 use Rattle.ranges.specs.declared.Range.{Range}
-use Rattle.ranges.specs.Quotient.{quotientOf}
+use Rattle.ranges.specs.Quotient.{quotient_of}
 use Rattle.ranges.proofs.Fits.{sized-fits}
-use Rattle.records.specs.Limits.{waterOk, fluxOk}
+use Rattle.records.specs.Limits.{water_ok, flux_ok}
 use Rattle.records.proofs.LimitLaws.{water-positive, water-low-in, water-high-in}
-use Rattle.segment.specs.Segment.{gainTop, gainOf}
+use Rattle.segment.specs.Segment.{gain_top, gain_of}
 use Rattle.segment.proofs.SegmentFits.{ends-in, divisor-in, divisor-positive}
 use Rattle.segment.proofs.formulas.gain_range.Goals as goal
 
 -- each number on the way fits
-module _ (v : Range) (e : fluxOk v ≡ true) where
+module _ (v : Range) (e : flux_ok v ≡ true) where
   vl : FitsSigned w64 v.low
   vl = sized-fits (le_z_yes tt) (ends-in v e).low
 
   vh : FitsSigned w64 v.high
   vh = sized-fits (le_z_yes tt) (ends-in v e).high
 
-module _ (d : Range) (e : waterOk d ≡ true) where
+module _ (d : Range) (e : water_ok d ≡ true) where
   dl : FitsSigned w64 d.low
   dl = sized-fits (le_z_yes tt) (water-low-in d e)
 
@@ -53,13 +53,13 @@ quotient-requires c =
     simp (to_z-of_z, dl d e, dh d e, bl d e, bh d e) (divisor-positive d (water-positive d e))
 
 pub returns : goal.returns
-unfolding gainOf
+unfolding gain_of
 returns c =
     let d = c.args.depth in
     let e = c.requires.3 in
     let fl : FitsSigned w64 c.gain_top-low.result = sfits_of c.gain_top-low.type_inv in
     let fh : FitsSigned w64 c.gain_top-high.result = sfits_of c.gain_top-high.type_inv in
-    let low : c.gain_top-low.result ≡ gainTop c.args.site c.args.weather c.args.flux.low = simp (to_z-of_z, vl c.args.flux c.requires.2) at c.gain_top-low.ensures in
-    let high : c.gain_top-high.result ≡ gainTop c.args.site c.args.weather c.args.flux.high = simp (to_z-of_z, vh c.args.flux c.requires.2) at c.gain_top-high.ensures in
+    let low : c.gain_top-low.result ≡ gain_top c.args.site c.args.weather c.args.flux.low = simp (to_z-of_z, vl c.args.flux c.requires.2) at c.gain_top-low.ensures in
+    let high : c.gain_top-high.result ≡ gain_top c.args.site c.args.weather c.args.flux.high = simp (to_z-of_z, vh c.args.flux c.requires.2) at c.gain_top-high.ensures in
     (simp (to_z-of_z, dl d e, dh d e, bl d e, bh d e, fl, fh) at c.quotient.ensures)
-    ∙ ap₂ (λ (x y : ℤ). quotientOf (record { low = x; high = y }) (record { low = pos 1000000000 *ℤ d.low; high = pos 1000000000 *ℤ d.high })) low high
+    ∙ ap₂ (λ (x y : ℤ). quotient_of (record { low = x; high = y }) (record { low = pos 1000000000 *ℤ d.low; high = pos 1000000000 *ℤ d.high })) low high

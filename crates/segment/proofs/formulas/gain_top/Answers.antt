@@ -6,7 +6,7 @@ use Rattle.ranges.specs.Bounds.{Sized}
 use Rattle.ranges.proofs.Fits.{sized-fits}
 use Rattle.segment.specs.declared.Site.{Site}
 use Rattle.segment.specs.declared.Weather.{Weather}
-use Rattle.segment.specs.Segment.{gainTop, SiteIn, WeatherIn}
+use Rattle.segment.specs.Segment.{gain_top, SiteIn, WeatherIn}
 use Rattle.segment.proofs.SegmentFits.{turn_in, turned-in, wind-in, slope-in, gain-top-in}
 use Rattle.segment.proofs.formulas.gain_top.Goals as goal
 
@@ -36,7 +36,7 @@ module _ {a : Site} {w : Weather} {v : ℤ} (i : SiteIn a) (j : WeatherIn w) (k 
   slope : FitsSigned w64 (pos 2748816 *ℤ a.sine *ℤ v +ℤ pos 2030 *ℤ w.onshore)
   slope = sized-fits (le_z_yes tt) (slope-in i j k)
 
-  top : FitsSigned w64 (gainTop a w v)
+  top : FitsSigned w64 (gain_top a w v)
   top = sized-fits (le_z_yes tt) (gain-top-in i j k)
 
 pub overflow_mul-result-2 : goal.overflow_mul-result-2

@@ -1,15 +1,15 @@
 -- `march_segment` meets its contract: each check in turn. Assumes nothing.
 use Rattle.std.proofs.Common.{rules, sym, ◌∙◌}
-use Rattle.segment.specs.Segment.{segmentOf}
+use Rattle.segment.specs.Segment.{segment_of}
 use Rattle.segment.proofs.SegmentFits.{gain-in}
 use Rattle.segment.proofs.formulas.march_segment.Goals as goal
 
 pub returns-then-not-range_inside : goal.returns-then-not-range_inside
-unfolding segmentOf
+unfolding segment_of
 returns-then-not-range_inside c = search rules
 
 pub returns-then-not-range_inside-2 : goal.returns-then-not-range_inside-2
-unfolding segmentOf
+unfolding segment_of
 returns-then-not-range_inside-2 c = search rules
 
 pub next_setup-next-requires : goal.next_setup-next-requires
@@ -20,9 +20,9 @@ next_setup-next-requires c = (
 )
 
 pub returns-then-not-range_inside-3 : goal.returns-then-not-range_inside-3
-unfolding segmentOf
+unfolding segment_of
 returns-then-not-range_inside-3 c = search rules
 
 pub returns : goal.returns
-unfolding segmentOf
+unfolding segment_of
 returns c = search rules

@@ -3,7 +3,7 @@ use Rattle.std.proofs.Common.{ℤ, pos, ◌+ℤ◌, ◌*ℤ◌, w64, FitsSigned}
 use Rattle.std.proofs.lemmas.Int.{to_z-of_z}
 use lib.Signed.{le_z_yes}
 use Rattle.ranges.proofs.Fits.{sized-fits, sized-add, sized-mul, sized-literal}
-use Rattle.segment.specs.Segment.{shoreBase, ShoreIn}
+use Rattle.segment.specs.Segment.{shore_base, ShoreIn}
 use Rattle.segment.proofs.formulas.shore_base.Goals as goal
 
 -- each number on the way fits
@@ -18,5 +18,5 @@ module _ {l d : ℤ} (h : ShoreIn l d) where
   base = sized-fits (le_z_yes tt) (sized-add (sized-mul (sized-literal 100) h.level_in) (sized-mul (sized-literal 114) h.deficit-in))
 
 pub returns : goal.returns
-unfolding shoreBase
+unfolding shore_base
 returns c = simp (to_z-of_z, c.ranges.level, c.ranges.deficit, level c.requires, deficit c.requires, base c.requires)

@@ -1,12 +1,12 @@
 -- `Tally::card`: a card with no word, or with no card number behind it, has no card's shape; any other is as its numbers say. Assumes nothing.
 use Rattle.std.proofs.Common.{refl, sym, ap, ◌∙◌, arith}
 use Rattle.deck.specs.declared.CardCursor.{CardCursor}
-use Rattle.deck.specs.Checks.{cardStep}
+use Rattle.deck.specs.Checks.{card_step}
 use Rattle.deck.proofs.CheckLaws.{counted-past, card-wordless, number-space, run-past, step-unnumbered, step-numbered}
 use Rattle.deck.proofs.cards.Tally.card.Goals as goal
 
 pub returns-then-end-from : goal.returns-then-end-from
-returns-then-end-from c = sym (ap (cardStep c.args.self) (card-wordless c.args.s.now c.args.from.at c.args.end.at c.if-end-from.true))
+returns-then-end-from c = sym (ap (card_step c.args.self) (card-wordless c.args.s.now c.args.from.at c.args.end.at c.if-end-from.true))
 
 pub returns-then-not-card_number : goal.returns-then-not-card_number
 returns-then-not-card_number c =
