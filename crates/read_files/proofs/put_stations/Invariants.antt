@@ -1,5 +1,5 @@
 -- What waits fits the buffer.
-use Rattle.std.proofs.Common.{◌≡◌, ◌-◌, ◌≤◌, ◌<◌, length}
+use Rattle.std.proofs.Common.{◌-◌, ◌≤◌, ◌<◌, length}
 use Rattle.read_files.proofs.put_stations.Given as goal
 
 abbrev pub invariant-loop-i : goal.invariant-loop-i
