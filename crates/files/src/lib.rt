@@ -4,7 +4,7 @@
 // many bytes it handed over, and what its callers make of that is proved. A read or a write that fails is told on standard error.
 #![tactic(auto)]
 
-ghost use Rattle.std.specs.Prelude.{◌≡◌, ℕ, ◌+◌, ◌-◌, ◌<◌, ◌≤◌, ◌^◌, length};
+ghost use Rattle.std.specs.Prelude.{◌≡◌, is_some, ℕ, ◌+◌, ◌-◌, ◌<◌, ◌≤◌, ◌^◌, length};
 ghost use Rattle.reader.specs.Text.{byte};
 ghost use Rattle.files.specs.Filled.{Refills, got_of, Gives, after_read, Refilled, Flushes};
 ghost use Rattle.files.specs.TraverseFile.{file_of, Loads, LoadsSome};
@@ -96,7 +96,7 @@ fn read_through(rt: &HostRuntime, name: &str, file: &mut Option<File>, buf: &mut
             got => return got,
         }
     }
-    Got::Failed
+    read_once(rt, name, file, buf)
 }
 
 // How a window stands after a read, where `rest` bytes were left of it: a read of no bytes is the file's end.
@@ -162,18 +162,17 @@ fn file_of(answer: Loaded, known: Known) -> TraverseFile
 fn load_traverse(
     rt: &HostRuntime,
     file: &mut Option<File>,
-    opened: bool,
     buf: &mut [u8],
     points: &mut [i64],
 ) -> TraverseFile
     requires { 33 ≤ length buf.old }
-    ensures { Loads opened buf.old points.old result buf.new points.new }
+    ensures { Loads (is_some file.old) buf.old points.old result buf.new points.new }
 {
     let mut turns: u64 = 0x100_0000_0000_0000;
     let mut k = Known::start();
     let mut line = 0;
     let mut have = 0;
-    let mut last = !opened;
+    let mut last = !file.is_some();
     while turns > 0 {
         turns -= 1;
         let step = k.step(Cursor { at: 0, line }, &buf[..have], last, points);
@@ -201,8 +200,7 @@ pub fn read_traverse(rt: &HostRuntime, buf: &mut [u8], points: &mut [i64]) -> Tr
     ensures { LoadsSome buf.old points.old result buf.new points.new }
 {
     let mut file = open(rt, "traverse.txt");
-    let opened = file.is_some();
-    load_traverse(rt, &mut file, opened, buf, points)
+    load_traverse(rt, &mut file, buf, points)
 }
 
 // ---- the output

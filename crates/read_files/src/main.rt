@@ -331,7 +331,6 @@ fn turn(
 fn print_storm(
     rt: &HostRuntime,
     file: &mut Option<File>,
-    opened: bool,
     buf: &mut [u8],
     n: usize,
     numbers: &mut [i64],
@@ -345,7 +344,7 @@ fn print_storm(
     let mut x = Reading {
         c: Cursor { at: 0, line: 0 },
         have: 0,
-        last: !opened,
+        last: !file.is_some(),
         used,
         on: true,
     };
@@ -377,8 +376,7 @@ fn print_run(
     let a = put_traverse(out, 0, head, n);
     let b = put_stations(out, a, points, n);
     let mut file = files::open(rt, "storm.txt");
-    let opened = file.is_some();
-    print_storm(rt, &mut file, opened, buf, n, numbers, out, b)
+    print_storm(rt, &mut file, buf, n, numbers, out, b)
 }
 
 fn run(rt: &HostRuntime, buf: &mut [u8], points: &mut [i64], numbers: &mut [i64], out: &mut [u8])

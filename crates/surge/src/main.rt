@@ -4,7 +4,7 @@
 // told on standard error; after a read that failed what waits is printed with the line `failed` behind it, after a write nothing more.
 #![tactic(auto)]
 
-ghost use Rattle.std.specs.Prelude.{◌≡◌, ◌+◌, ◌≤◌, length};
+ghost use Rattle.std.specs.Prelude.{◌≡◌, ◌+◌, ◌≤◌, length, is_some};
 ghost use Rattle.records.specs.Shapes.{traverse, count};
 ghost use Rattle.listing.specs.Lines.{failed_line};
 ghost use Rattle.reader.specs.Storm.{record_size, longest_record};
@@ -188,7 +188,6 @@ fn turn(
 fn march_storm(
     rt: &HostRuntime,
     file: &mut Option<File>,
-    opened: bool,
     buf: &mut [u8],
     head: Head,
     points: &[i64],
@@ -199,13 +198,13 @@ fn march_storm(
     used: usize,
 ) -> usize
     requires { Starts run used buf.old (traverse head points.now) numbers.old out.old }
-    ensures { (result ≤ length out.new) × Marches opened (traverse head points.now) run used buf.old numbers.old rows.old out.old result buf.new numbers.new rows.new out.new }
+    ensures { (result ≤ length out.new) × Marches (is_some file.old) (traverse head points.now) run used buf.old numbers.old rows.old out.old result buf.new numbers.new rows.new out.new }
 {
     let mut turns: u64 = 0x100_0000_0000_0000;
     let mut x = Standing {
         run,
         have: 0,
-        last: !opened,
+        last: !file.is_some(),
         used,
         on: true,
     };
@@ -239,11 +238,9 @@ fn print_storm(
         Flushed::Failed => 0,
         Flushed::Wrote(n) => {
             let mut file = files::open(rt, "storm.txt");
-            let opened = file.is_some();
             march_storm(
                 rt,
                 &mut file,
-                opened,
                 buf,
                 head,
                 points,

@@ -1,21 +1,28 @@
 -- `load_traverse` meets its contract. Assumes nothing.
-use Rattle.std.proofs.Common.{ℕ, length, take, refl, sym, ap, ◌∙◌, subst, arith, rules}
+use Rattle.std.proofs.Common.{◌≡◌, Bool, not, List, ℕ, length, take, ℤ, refl, sym, ap, ◌∙◌, subst, arith, rules}
 use lib.Seq.{length-take-le}
 use Rattle.reader.specs.declared.traverse.TraverseStep.{TraverseStep}
 use Rattle.reader.specs.Lines.{Leaves}
-use Rattle.reader.specs.Traverse.{held}
+use Rattle.reader.specs.Traverse.{held, start}
 use Rattle.reader.proofs.Ends.{Stands as Step-stands, traverse-stands}
 use Rattle.files.specs.declared.Filled.TheVariants.{Holds}
 use Rattle.files.specs.declared.Loaded.TheVariants.{Read, Refused, Failed}
 use Rattle.files.specs.Filled.{InFront, Refilled}
-use Rattle.files.specs.TraverseFile.{loaded_by}
+use Rattle.reader.specs.declared.traverse.Known.{Known}
+use Rattle.files.specs.Chain.{most_turns}
+use Rattle.files.specs.TraverseFile.{loaded_by, begun, Follows}
 use Rattle.files.proofs.Asks.{Asks, traverse-asks}
 use Rattle.files.proofs.Reached.{reading, asked, answered, walked_on, walked-out}
-use Rattle.files.proofs.Walked.{walked_none}
+use Rattle.files.proofs.Walked.{Walked, walked_none}
 use Rattle.files.proofs.load_traverse.Goals as goal
 
+-- nothing is known, no byte was read, and a file that is not there has ended
+begins : {k : Known} {there opened : Bool} (buf : List ℕ) (points : List ℤ) → k ≡ start → there ≡ opened
+    → Walked Follows (begun opened buf points) (reading k points 0 buf 0 (not there)) most_turns
+begins buf points e f = rw (e, f) (walked_none _)
+
 pub loop-turns-init : goal.loop-turns-init
-loop-turns-init c = record { points = refl; held = omega arith; walked = rw c.start-k.ensures (walked_none _) }
+loop-turns-init c = record { points = refl; held = omega arith; walked = begins _ _ c.start-k.ensures c.is_some-last.ensures }
 
 pub returns-in-Read : goal.returns-in-Read
 returns-in-Read c =

@@ -13,7 +13,7 @@ loop-turns-init c = record {
   out-long = refl;
   stands = record { place = c.requires.place; held = omega arith; waits = c.requires.waits };
   on = refl;
-  walked = walked_none _;
+  walked = rw c.is_some.ensures (walked_none _);
 }
 
 pub returns-then-not-x : goal.returns-then-not-x
