@@ -52,27 +52,27 @@ module _ (latitude friction initial : ℤ) (points : List ℤ) (seconds tide : �
   abbrev call : Call
   call = call_of latitude friction initial seconds tide state
 
-  abbrev F : ℕ → List ℤ → LeftNumbers
-  F n l = take_numbers latitude friction initial points seconds tide storm state n l setup answer
+  abbrev take_rows : ℕ → List ℤ → LeftNumbers
+  take_rows n l = take_numbers latitude friction initial points seconds tide storm state n l setup answer
 
   -- with n rows, and no more than may be lent
-  of-few : (n : ℕ) (l more : List ℤ) → n ≤ 64 → length l ≡ 3 * n → F n (l ++ more) ≡ numbers_with (march_left call points storm l setup) (3 * n) state (l ++ more) setup answer
+  of-few : (n : ℕ) (l more : List ℤ) → n ≤ 64 → length l ≡ 3 * n → take_rows n (l ++ more) ≡ numbers_with (march_left call points storm l setup) (3 * n) state (l ++ more) setup answer
   unfolding take_numbers
   of-few n l more h e =
       let k : 3 * n ≤ length (l ++ more) = rw (length-append l more) (omega arith) in
       rw (size_few n (length (l ++ more)) h k, take_at l more (3 * n) e)
 
-  of-all : (n : ℕ) (l : List ℤ) → n ≤ 64 → length l ≡ 3 * n → F n l ≡ numbers_with (march_left call points storm l setup) (3 * n) state l setup answer
-  of-all n l h e = subst (λ (z : List ℤ). F n z ≡ numbers_with (march_left call points storm l setup) (3 * n) state z setup answer) (append-nil l) (of-few n l [] h e)
+  of-all : (n : ℕ) (l : List ℤ) → n ≤ 64 → length l ≡ 3 * n → take_rows n l ≡ numbers_with (march_left call points storm l setup) (3 * n) state l setup answer
+  of-all n l h e = subst (λ (z : List ℤ). take_rows n z ≡ numbers_with (march_left call points storm l setup) (3 * n) state z setup answer) (append-nil l) (of-few n l [] h e)
 
-  of-many : (n : ℕ) (l : List ℤ) → 64 < n → F n l ≡ numbers_with (march_left call points storm [] setup) 0 state l setup answer
+  of-many : (n : ℕ) (l : List ℤ) → 64 < n → take_rows n l ≡ numbers_with (march_left call points storm [] setup) 0 state l setup answer
   unfolding take_numbers
   of-many n l h = rw (size-many n (length l) h, take_none l)
 
-  abbrev Made : Bool → Told → march.Left → ℕ → List ℤ → LeftNumbers
-  Made ok told x size l = cond ok (after_numbers told x size state l) (left_numbers wrong_buffer state l setup answer)
+  abbrev left_or_refused : Bool → Told → march.Left → ℕ → List ℤ → LeftNumbers
+  left_or_refused ok told x size l = cond ok (after_numbers told x size state l) (left_numbers wrong_buffer state l setup answer)
 
-  pub framed : Framed F
+  pub framed : Framed take_rows
   framed = record {
     few = λ n l more h e. of-few n l more h e ∙ few-by n l more e (buffers_ok (length state) (length answer)) (march_left call points storm l setup).answer ∙ sym (ap (λ (x : LeftNumbers). with_numbers x (x.numbers ++ more)) (of-all n l h e));
     long = λ n l h e. ap (λ (x : LeftNumbers). length x.numbers) (of-all n l h e) ∙ long-by n l e (buffers_ok (length state) (length answer)) (march_left call points storm l setup).answer;
@@ -80,7 +80,7 @@ module _ (latitude friction initial : ℤ) (points : List ℤ) (seconds tide : �
   }
     where
       few-by : (n : ℕ) (l more : List ℤ) → length l ≡ 3 * n → (ok : Bool) (told : Told) → let x = march_left call points storm l setup in
-          Made ok told x (3 * n) (l ++ more) ≡ with_numbers (Made ok told x (3 * n) l) ((Made ok told x (3 * n) l).numbers ++ more)
+          left_or_refused ok told x (3 * n) (l ++ more) ≡ with_numbers (left_or_refused ok told x (3 * n) l) ((left_or_refused ok told x (3 * n) l).numbers ++ more)
       few-by n l more e true (accepted elapsed low high) =
           let x = march_left call points storm l setup in
           let none : drop (3 * n) l ≡ [] = past_all l (3 * n) (omega arith) in
@@ -88,7 +88,7 @@ module _ (latitude friction initial : ℤ) (points : List ℤ) (seconds tide : �
       few-by n l more e true (refused number place) = refl
       few-by n l more e false told = refl
 
-      long-by : (n : ℕ) (l : List ℤ) → length l ≡ 3 * n → (ok : Bool) (told : Told) → length (Made ok told (march_left call points storm l setup) (3 * n) l).numbers ≡ 3 * n
+      long-by : (n : ℕ) (l : List ℤ) → length l ≡ 3 * n → (ok : Bool) (told : Told) → length (left_or_refused ok told (march_left call points storm l setup) (3 * n) l).numbers ≡ 3 * n
       long-by n l e true (accepted elapsed low high) =
           let x = march_left call points storm l setup in
           let none : drop (3 * n) l ≡ [] = past_all l (3 * n) (omega arith) in
@@ -96,7 +96,7 @@ module _ (latitude friction initial : ℤ) (points : List ℤ) (seconds tide : �
       long-by n l e true (refused number place) = e
       long-by n l e false told = e
 
-      many_by : (l k : List ℤ) (ok : Bool) (told : Told) → let x = march_left call points storm [] setup in Made ok told x 0 l ≡ with_numbers (Made ok told x 0 k) l
+      many_by : (l k : List ℤ) (ok : Bool) (told : Told) → let x = march_left call points storm [] setup in left_or_refused ok told x 0 l ≡ with_numbers (left_or_refused ok told x 0 k) l
       many_by l k true (accepted elapsed low high) = rw (empty (march_left call points storm [] setup).rows (rows_long (given most_points call points storm [] setup)), drop-none l)
         where
           drop-none : (l : List ℤ) → drop 0 l ≡ l
@@ -106,7 +106,7 @@ module _ (latitude friction initial : ℤ) (points : List ℤ) (seconds tide : �
       many_by l k false told = refl
 
   -- a call that is not accepted leaves the numbers
-  pub refused-numbers : (n : ℕ) (l : List ℤ) → ((F n l).number ≡ 0 → ⊥) → (F n l).numbers ≡ l
+  pub refused-numbers : (n : ℕ) (l : List ℤ) → ((take_rows n l).number ≡ 0 → ⊥) → (take_rows n l).numbers ≡ l
   unfolding take_numbers
   refused-numbers n l = by (buffers_ok (length state) (length answer)) x.answer
     where
@@ -116,7 +116,7 @@ module _ (latitude friction initial : ℤ) (points : List ℤ) (seconds tide : �
       x : march.Left
       x = march_left call points storm (take size l) setup
 
-      by : (ok : Bool) (told : Told) → ((Made ok told x size l).number ≡ 0 → ⊥) → (Made ok told x size l).numbers ≡ l
+      by : (ok : Bool) (told : Told) → ((left_or_refused ok told x size l).number ≡ 0 → ⊥) → (left_or_refused ok told x size l).numbers ≡ l
       by true (accepted elapsed low high) h = absurd (h refl)
       by true (refused number place) h = refl
       by false told h = refl
@@ -143,7 +143,7 @@ module _ (latitude friction initial : ℤ) (points : List ℤ) (seconds tide : �
   unfolding wholes
   none-held = refl
 
-  pub rows-call : (rows : List Row) → in_rows (F (length rows) (numbers_from rows)) ≡ take_call latitude friction initial points seconds tide storm state rows setup answer
+  pub rows-call : (rows : List Row) → in_rows (take_rows (length rows) (numbers_from rows)) ≡ take_call latitude friction initial points seconds tide storm state rows setup answer
   unfolding take_call
   rows-call rows = by (leb (length rows) 64) refl
     where
@@ -164,7 +164,7 @@ module _ (latitude friction initial : ℤ) (points : List ℤ) (seconds tide : �
       many true (Fail r) = rw (rows_back rows)
       many false k = rw (rows_back rows)
 
-      by : (small : Bool) → leb (length rows) 64 ≡ small → in_rows (F (length rows) (numbers_from rows)) ≡ take_with (march_left call points storm (numbers_from rows) setup) state rows setup answer
+      by : (small : Bool) → leb (length rows) 64 ≡ small → in_rows (take_rows (length rows) (numbers_from rows)) ≡ take_with (march_left call points storm (numbers_from rows) setup) state rows setup answer
       by true e =
           ap in_rows (of-all (length rows) (numbers_from rows) (leb-true (length rows) 64 e) (numbers-length rows))
           ∙ few (buffers_ok (length state) (length answer)) (march_left call points storm (numbers_from rows) setup).answer (march_left call points storm (numbers_from rows) setup)
@@ -177,10 +177,10 @@ module _ (latitude friction initial : ℤ) (points : List ℤ) (seconds tide : �
   -- ---- the numbers of m rows, laid over zeros
 
   module _ (rows : List Row) (m : ℕ) (m-is : m ≡ moved_rows (length rows)) (numbers : List ℤ) (numbers-are : numbers ≡ laid m rows zeros)
-      (r : ℕ) (state' numbers' setup' answer' : List ℤ) (e : left_numbers r state' numbers' setup' answer' ≡ F (length rows) numbers) where
+      (r : ℕ) (state' numbers' setup' answer' : List ℤ) (e : left_numbers r state' numbers' setup' answer' ≡ take_rows (length rows) numbers) where
     -- with rows made of what was left
     pub rows-taken : left_rows r state' (backed m numbers' rows) setup' answer' ≡ take_call latitude friction initial points seconds tide storm state rows setup answer
-    rows-taken = call-said F framed rows m m-is r state' numbers' setup' answer' (e ∙ ap (F (length rows)) numbers-are) ∙ rows-call rows
+    rows-taken = call-said take_rows framed rows m m-is r state' numbers' setup' answer' (e ∙ ap (take_rows (length rows)) numbers-are) ∙ rows-call rows
 
     -- with the rows as they were, where the call is not accepted
     pub rows-kept : (r ≡ 0 → ⊥) → left_rows r state' rows setup' answer' ≡ take_call latitude friction initial points seconds tide storm state rows setup answer
