@@ -1,4 +1,5 @@
 -- What is read in a window is what is read of the text, where the window has the bytes that so many lines can take: eleven for each value. Assumes nothing.
+use Rattle.std.proofs.Common.{Result, Ok, Err}
 use mathlib.Core.Path.{◌≡◌, refl, sym, ◌∙◌, subst}
 use mathlib.Core.Bool.{Bool, true, false, cond, ◌&&◌}
 use mathlib.Core.List.{List, [], ◌∷◌}
@@ -16,9 +17,9 @@ use Rattle.records.specs.Refusals.{refusal}
 use Rattle.records.proofs.LimitLaws.{and_left}
 use Rattle.reader.specs.Lines.{found, repeated, kept_with, same_with, Line, full, bad, closed_at, values_at, LinesRead, lines_read, after, lines_at, spells, names_at}
 use Rattle.reader.specs.Window.{Shows, moved, window_of, last_of, from_of, Cut}
-use Rattle.reader.specs.declared.Lines.{Lines}
-use Rattle.reader.specs.declared.Lines.TheVariants.{Read, Refused}
 use Rattle.reader.proofs.Laws.{too_long}
+use Rattle.reader.specs.declared.Cursor.{Cursor}
+use Rattle.records.specs.declared.Refusal.{Refusal}
 
 -- t is the text s from o on, as far as the first L bytes show: the same bytes, and the same end
 pub record Window (s t : List ℕ) (o L : ℕ) : Type 0 where
@@ -74,7 +75,7 @@ unfolding past_at
 past-few t j g = go (ltb 9 (digits t 10 (start_at t j))) refl
   where
     go : (b : Bool) → ltb 9 (digits t 10 (start_at t j)) ≡ b → start_at t j + digits t 10 (start_at t j) ≤ j + 10
-    go true e = let f : true ≡ false = sym g ∙ too_long t j (ltb-true _ _ e) in let z : ◌≡◌ {A = ℕ} 0 1 = cc in omega arith
+    go true e = let f : true ≡ false = sym g ∙ too_long t j (ltb-true _ _ e) in absurd cc
     go false e = omega (arith, start-few t j, ltb-false 9 (digits t 10 (start_at t j)) e)
 
 -- how far a line is read
@@ -101,16 +102,16 @@ abbrev moved_line : ℕ → Line → Line
 moved_line o (full a kept same) = full (o + a) kept same
 moved_line o (bad kept) = bad kept
 
-abbrev pub moved_answer : ℕ → Lines → Lines
-moved_answer o (Read c) = Read (record { at = o + c.at; line = c.line })
-moved_answer o (Refused q) = Refused q
+abbrev pub moved_answer : ℕ → Result Cursor Refusal → Result Cursor Refusal
+moved_answer o (Ok c) = Ok (record { at = o + c.at; line = c.line })
+moved_answer o (Err q) = Err q
 
 abbrev pub moved_lines : ℕ → LinesRead → LinesRead
 moved_lines o x = lines_read (moved_answer o x.answer) x.kept
 
-pub found-moved : {A : Type 0} (o : ℕ) (r : Lines) (x : A) → found (moved_answer o r) x ≡ moved o (found r x)
-found-moved o (Read c) x = refl
-found-moved o (Refused q) x = refl
+pub found-moved : {A : Type 0} (o : ℕ) (r : Result Cursor Refusal) (x : A) → found (moved_answer o r) x ≡ moved o (found r x)
+found-moved o (Ok c) x = refl
+found-moved o (Err q) x = refl
 
 module _ {s t : List ℕ} {o L : ℕ} (w : Window s t o L) where
   digit-local : (j : ℕ) → j < L → digit_at s (o + j) ≡ digit_at t j
@@ -191,8 +192,8 @@ module _ {s t : List ℕ} {o L : ℕ} (w : Window s t o L) where
       (by (ltb j (length t)) (values_at t shared i width 0 j kept true) k (values-few t shared i width 0 j kept true))
     where
       by : (b : Bool) (l : Line) → j + n * (width * 11) + width * 11 ≤ L → Within (j + width * 11) l
-          → cond b (after (moved_line o l) (more line) (λ a p. lines_at s width shared n (i + 1) a (more line) p)) (lines_read (Refused (refusal Ended line)) kept)
-          ≡ moved_lines o (cond b (after l (more line) (λ a p. lines_at t width shared n (i + 1) a (more line) p)) (lines_read (Refused (refusal Ended line)) kept))
+          → cond b (after (moved_line o l) (more line) (λ a p. lines_at s width shared n (i + 1) a (more line) p)) (lines_read (Err (refusal Ended line)) kept)
+          ≡ moved_lines o (cond b (after l (more line) (λ a p. lines_at t width shared n (i + 1) a (more line) p)) (lines_read (Err (refusal Ended line)) kept))
       by true (full a p true) k f = r a p (omega arith)
       by true (full a p false) k f = refl
       by true (bad p) k f = refl
@@ -214,8 +215,8 @@ module _ {s t : List ℕ} {o L : ℕ} (w : Window s t o L) where
   unfolding names_at
   names-local want j line h = rw (spells-local want j h) (go (spells t j want))
     where
-      go : (b : Bool) → cond b (Read (record { at = o + j + length want; line = more line })) (Refused (refusal Names (more line)))
-          ≡ moved_answer o (cond b (Read (record { at = j + length want; line = more line })) (Refused (refusal Names (more line))))
+      go : (b : Bool) → cond b (Ok (record { at = o + j + length want; line = more line })) (Err (refusal Names (more line)))
+          ≡ moved_answer o (cond b (Ok (record { at = j + length want; line = more line })) (Err (refusal Names (more line))))
       go true = rw (add_assoc o j (length want))
       go false = refl
 
@@ -238,4 +239,4 @@ shows-cut s c at h =
   where
     shown-end : (b : Bool) → cond b (leb (length s) (from_of c at + c.size)) false ≡ true → leb (length s) (from_of c at + c.size) ≡ true
     shown-end true e = e
-    shown-end false e = absurd (let z : ◌≡◌ {A = ℕ} 0 1 = cc in omega arith)
+    shown-end false e = absurd cc
