@@ -1,10 +1,6 @@
 -- `wind_at`: row i is not beyond r, and the list that is left gives what the whole gives.
-use Rattle.std.proofs.Common.{◌-◌}
 use Rattle.hurricane.proofs.FieldLaws.{WindInv}
-use Rattle.hurricane.proofs.field.wind_at.Given as goal
+use Rattle.hurricane.proofs.field.Field.wind_at.Given as goal
 
 abbrev pub invariant-loop-i : goal.invariant-loop-i
 invariant-loop-i l = WindInv l.winds l.r l.last l.i
-
-abbrev pub decreases-loop-i : goal.decreases-loop-i
-decreases-loop-i l = l.last - l.i
