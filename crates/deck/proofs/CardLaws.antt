@@ -1,4 +1,5 @@
 -- Laws of cards: one that is read ends past its start and within the text; and what `cards_by` makes of a place. Assumes nothing.
+use Rattle.std.proofs.Common.{Option, Some, None}
 use mathlib.Core.Path.{◌≡◌, refl, sym, ap}
 use mathlib.Core.Bool.{Bool, true, false, cond}
 use mathlib.Core.List.{List, [], ◌∷◌}
@@ -47,7 +48,7 @@ numbers-past s (suc n) at ts w past e =
     go true g false a false x e i = absurd cc
     go false g a p b x e i = absurd cc
 
-pub card-past : (s : List ℕ) (at end : ℕ) (word : Word) (k : ℕ) (ts : List ℕ) (w : Bool) (past : ℕ) → card_with s at end ≡ card word k (numbers ts w past)
+pub card-past : (s : List ℕ) (at end : ℕ) (word : Option Word) (k : ℕ) (ts : List ℕ) (w : Bool) (past : ℕ) → card_with s at end ≡ card word k (numbers ts w past)
     → Spans s at (length ts) past
 unfolding card_with head_good
 card-past s at end word k ts w past e = go (head_good s at end) refl e
@@ -66,9 +67,10 @@ card-past s at end word k ts w past e = go (head_good s at end) refl e
 -- behind a card they are read from past it on
 after-same : (s : List ℕ) (at end line : ℕ) (l : Last) (x : Card) (f g : Last → ℕ → ℕ → Cards) → card_with s at end ≡ x
     → ((m : Last) (past : ℕ) → at < past → f m past line ≡ g m past line) → after_card x l line f ≡ after_card x l line g
-after-same s at end line l (card word k (numbers ts w past)) f g e h =
-    let r = card-past s at end word k ts w past e in
+after-same s at end line l (card (Some word) k (numbers ts w past)) f g e h =
+    let r = card-past s at end (Some word) k ts w past e in
     rw (h (record { word = word; number = k }) past (omega arith))
+after-same s at end line l (card None k (numbers ts w past)) f g e h = refl
 after-same s at end line l (card word k misshapen) f g e h = refl
 after-same s at end line l no_card f g e h = refl
 

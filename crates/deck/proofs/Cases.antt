@@ -1,5 +1,6 @@
 -- The definitions computed on decks and numbers worked out by hand: document 01's listing and TM-50's first cards as decks, every shape of number, each
 -- refusal, two faults at once. In the comments a line feed is \n. Assumes nothing.
+use Rattle.std.proofs.Common.{Some, None, Ok, Err}
 use mathlib.Core.Path.{◌≡◌, refl}
 use mathlib.Core.Bool.{true, false}
 use mathlib.Core.List.{[], ◌∷◌}
@@ -13,42 +14,41 @@ use Rattle.listing.specs.Lines.{values_line}
 use Rattle.listing.specs.Put.{written}
 use Rattle.reader.specs.Text.{more, digit_at, digits, worth}
 use Rattle.reader.specs.Lines.{spells}
-use Rattle.deck.specs.declared.Converted.TheVariants.{Text, Refused}
-use Rattle.deck.specs.Number.{count_at, worth_at, count_good, point_at, part_from, part_count, part_worth, good_at, past_at, tenths_at, whole_at, number_at, cursor}
+use Rattle.deck.specs.Number.{count_at, worth_at, count_good, point_at, part_from, part_count, part_worth, good_at, past_at, tenths_at, whole_at, decimal_at, number_at, cursor}
 use Rattle.deck.specs.Cards.{in_word, word_end, word_at, numbers_at, head_good, card_with, card_at, follows_by, follows, cards, refused, cards_by, deck_of}
 use Rattle.deck.specs.Deck.{point_line, point_lines, head_lines, traverse_text, left_deck, put_text, convert_of}
 
--- a number at the front of a text: the place past it, whether it is one, its tenths, whether they are whole
+-- a number at the front of a text, if it is one: the place past it, how many digits, its tenths, whether they are whole
 pub record NumberCases : Type 0 where
   -- `12.5 `
-  fraction : number_at (49 ∷ 50 ∷ 46 ∷ 53 ∷ 32 ∷ []) 0 ≡ record { past = cursor 4; good = true; tenths = 125; whole = true }
+  fraction : number_at (49 ∷ 50 ∷ 46 ∷ 53 ∷ 32 ∷ []) 0 ≡ Some (record { past = cursor 4; count = 3; tenths = 125; whole = true })
   -- `.5\n`
-  point-first : number_at (46 ∷ 53 ∷ 10 ∷ []) 0 ≡ record { past = cursor 2; good = true; tenths = 5; whole = true }
+  point-first : number_at (46 ∷ 53 ∷ 10 ∷ []) 0 ≡ Some (record { past = cursor 2; count = 1; tenths = 5; whole = true })
   -- `5. `
-  point-last : number_at (53 ∷ 46 ∷ 32 ∷ []) 0 ≡ record { past = cursor 2; good = true; tenths = 50; whole = true }
+  point-last : number_at (53 ∷ 46 ∷ 32 ∷ []) 0 ≡ Some (record { past = cursor 2; count = 1; tenths = 50; whole = true })
   -- `00012.50\n`
-  noughts-around : number_at (48 ∷ 48 ∷ 48 ∷ 49 ∷ 50 ∷ 46 ∷ 53 ∷ 48 ∷ 10 ∷ []) 0 ≡ record { past = cursor 8; good = true; tenths = 125; whole = true }
+  noughts-around : number_at (48 ∷ 48 ∷ 48 ∷ 49 ∷ 50 ∷ 46 ∷ 53 ∷ 48 ∷ 10 ∷ []) 0 ≡ Some (record { past = cursor 8; count = 7; tenths = 125; whole = true })
   -- `20.10 `
-  nought-behind : number_at (50 ∷ 48 ∷ 46 ∷ 49 ∷ 48 ∷ 32 ∷ []) 0 ≡ record { past = cursor 5; good = true; tenths = 201; whole = true }
+  nought-behind : number_at (50 ∷ 48 ∷ 46 ∷ 49 ∷ 48 ∷ 32 ∷ []) 0 ≡ Some (record { past = cursor 5; count = 4; tenths = 201; whole = true })
   -- `.05 `
-  hundredths : number_at (46 ∷ 48 ∷ 53 ∷ 32 ∷ []) 0 ≡ record { past = cursor 3; good = true; tenths = 0; whole = false }
+  hundredths : number_at (46 ∷ 48 ∷ 53 ∷ 32 ∷ []) 0 ≡ Some (record { past = cursor 3; count = 2; tenths = 0; whole = false })
   -- `1.23 `
-  tenths-and-hundredths : number_at (49 ∷ 46 ∷ 50 ∷ 51 ∷ 32 ∷ []) 0 ≡ record { past = cursor 4; good = true; tenths = 12; whole = false }
+  tenths-and-hundredths : number_at (49 ∷ 46 ∷ 50 ∷ 51 ∷ 32 ∷ []) 0 ≡ Some (record { past = cursor 4; count = 3; tenths = 12; whole = false })
   -- `. `
-  point-alone : number_at (46 ∷ 32 ∷ []) 0 ≡ record { past = cursor 1; good = false; tenths = 0; whole = true }
+  point-alone : (number_at (46 ∷ 32 ∷ []) 0 ≡ None) × (decimal_at (46 ∷ 32 ∷ []) 0 ≡ record { past = cursor 1; count = 0; tenths = 0; whole = true })
   -- `99999999\n`
-  eight-digits : number_at (57 ∷ 57 ∷ 57 ∷ 57 ∷ 57 ∷ 57 ∷ 57 ∷ 57 ∷ 10 ∷ []) 0 ≡ record { past = cursor 8; good = true; tenths = 999999990; whole = true }
+  eight-digits : number_at (57 ∷ 57 ∷ 57 ∷ 57 ∷ 57 ∷ 57 ∷ 57 ∷ 57 ∷ 10 ∷ []) 0 ≡ Some (record { past = cursor 8; count = 8; tenths = 999999990; whole = true })
   -- `1234567.8\n`
-  eight-with-point : number_at (49 ∷ 50 ∷ 51 ∷ 52 ∷ 53 ∷ 54 ∷ 55 ∷ 46 ∷ 56 ∷ 10 ∷ []) 0 ≡ record { past = cursor 9; good = true; tenths = 12345678; whole = true }
+  eight-with-point : number_at (49 ∷ 50 ∷ 51 ∷ 52 ∷ 53 ∷ 54 ∷ 55 ∷ 46 ∷ 56 ∷ 10 ∷ []) 0 ≡ Some (record { past = cursor 9; count = 8; tenths = 12345678; whole = true })
   -- `123456789 `
-  nine-digits : number_at (49 ∷ 50 ∷ 51 ∷ 52 ∷ 53 ∷ 54 ∷ 55 ∷ 56 ∷ 57 ∷ 32 ∷ []) 0 ≡ record { past = cursor 9; good = false; tenths = 1234567890; whole = true }
+  nine-digits : (number_at (49 ∷ 50 ∷ 51 ∷ 52 ∷ 53 ∷ 54 ∷ 55 ∷ 56 ∷ 57 ∷ 32 ∷ []) 0 ≡ None) × (decimal_at (49 ∷ 50 ∷ 51 ∷ 52 ∷ 53 ∷ 54 ∷ 55 ∷ 56 ∷ 57 ∷ 32 ∷ []) 0 ≡ record { past = cursor 9; count = 9; tenths = 1234567890; whole = true })
   -- `12345678.9 `
-  nine-with-point : number_at (49 ∷ 50 ∷ 51 ∷ 52 ∷ 53 ∷ 54 ∷ 55 ∷ 56 ∷ 46 ∷ 57 ∷ 32 ∷ []) 0 ≡ record { past = cursor 10; good = false; tenths = 123456789; whole = true }
+  nine-with-point : (number_at (49 ∷ 50 ∷ 51 ∷ 52 ∷ 53 ∷ 54 ∷ 55 ∷ 56 ∷ 46 ∷ 57 ∷ 32 ∷ []) 0 ≡ None) × (decimal_at (49 ∷ 50 ∷ 51 ∷ 52 ∷ 53 ∷ 54 ∷ 55 ∷ 56 ∷ 46 ∷ 57 ∷ 32 ∷ []) 0 ≡ record { past = cursor 10; count = 9; tenths = 123456789; whole = true })
   -- `0 `
-  nought : number_at (48 ∷ 32 ∷ []) 0 ≡ record { past = cursor 1; good = true; tenths = 0; whole = true }
+  nought : number_at (48 ∷ 32 ∷ []) 0 ≡ Some (record { past = cursor 1; count = 1; tenths = 0; whole = true })
 
 pub number-cases : NumberCases
-unfolding number_at good_at past_at tenths_at whole_at part_count part_worth part_from point_at count_good count_at worth_at digits worth digit_at
+unfolding number_at decimal_at good_at past_at tenths_at whole_at part_count part_worth part_from point_at count_good count_at worth_at digits worth digit_at
 number-cases = record {
   fraction = refl;
   point-first = refl;
@@ -57,11 +57,11 @@ number-cases = record {
   nought-behind = refl;
   hundredths = refl;
   tenths-and-hundredths = refl;
-  point-alone = refl;
+  point-alone = (refl, refl);
   eight-digits = refl;
   eight-with-point = refl;
-  nine-digits = refl;
-  nine-with-point = refl;
+  nine-digits = (refl, refl);
+  nine-with-point = (refl, refl);
   nought = refl;
 }
 
@@ -155,13 +155,13 @@ given = record { latitude = pos 300; friction = pos 25; initial = pos 0 }
 -- the call
 pub record CallCases : Type 0 where
   -- document 01's listing, with room for one byte more
-  whole : convert_of given (68 ∷ 73 ∷ 83 ∷ 84 ∷ 32 ∷ 49 ∷ 32 ∷ 49 ∷ 32 ∷ 46 ∷ 48 ∷ 10 ∷ 68 ∷ 69 ∷ 80 ∷ 84 ∷ 72 ∷ 32 ∷ 49 ∷ 32 ∷ 53 ∷ 48 ∷ 32 ∷ 53 ∷ 48 ∷ 10 ∷ []) (7 ∷ 7 ∷ 7 ∷ 7 ∷ 7 ∷ 7 ∷ 7 ∷ 7 ∷ 7 ∷ 7 ∷ 7 ∷ 7 ∷ 7 ∷ 7 ∷ 7 ∷ 7 ∷ 7 ∷ 7 ∷ 7 ∷ 7 ∷ 7 ∷ 7 ∷ 7 ∷ 7 ∷ 7 ∷ 7 ∷ 7 ∷ 7 ∷ 7 ∷ 7 ∷ 7 ∷ 7 ∷ 7 ∷ 7 ∷ 7 ∷ 7 ∷ 7 ∷ 7 ∷ 7 ∷ 7 ∷ 7 ∷ 7 ∷ 7 ∷ 7 ∷ 7 ∷ 7 ∷ 7 ∷ 7 ∷ 7 ∷ 7 ∷ 7 ∷ 7 ∷ 7 ∷ 7 ∷ 7 ∷ 7 ∷ 7 ∷ 7 ∷ 7 ∷ 7 ∷ 7 ∷ 7 ∷ 7 ∷ 7 ∷ []) ≡ left_deck (Text 63) (108 ∷ 97 ∷ 116 ∷ 105 ∷ 116 ∷ 117 ∷ 100 ∷ 101 ∷ 32 ∷ 102 ∷ 114 ∷ 105 ∷ 99 ∷ 116 ∷ 105 ∷ 111 ∷ 110 ∷ 32 ∷ 105 ∷ 110 ∷ 105 ∷ 116 ∷ 105 ∷ 97 ∷ 108 ∷ 10 ∷ 51 ∷ 48 ∷ 48 ∷ 32 ∷ 50 ∷ 53 ∷ 32 ∷ 48 ∷ 10 ∷ 100 ∷ 105 ∷ 115 ∷ 116 ∷ 97 ∷ 110 ∷ 99 ∷ 101 ∷ 32 ∷ 100 ∷ 101 ∷ 112 ∷ 116 ∷ 104 ∷ 10 ∷ 49 ∷ 48 ∷ 32 ∷ 53 ∷ 48 ∷ 48 ∷ 10 ∷ 48 ∷ 32 ∷ 53 ∷ 48 ∷ 48 ∷ 10 ∷ 7 ∷ [])
+  whole : convert_of given (68 ∷ 73 ∷ 83 ∷ 84 ∷ 32 ∷ 49 ∷ 32 ∷ 49 ∷ 32 ∷ 46 ∷ 48 ∷ 10 ∷ 68 ∷ 69 ∷ 80 ∷ 84 ∷ 72 ∷ 32 ∷ 49 ∷ 32 ∷ 53 ∷ 48 ∷ 32 ∷ 53 ∷ 48 ∷ 10 ∷ []) (7 ∷ 7 ∷ 7 ∷ 7 ∷ 7 ∷ 7 ∷ 7 ∷ 7 ∷ 7 ∷ 7 ∷ 7 ∷ 7 ∷ 7 ∷ 7 ∷ 7 ∷ 7 ∷ 7 ∷ 7 ∷ 7 ∷ 7 ∷ 7 ∷ 7 ∷ 7 ∷ 7 ∷ 7 ∷ 7 ∷ 7 ∷ 7 ∷ 7 ∷ 7 ∷ 7 ∷ 7 ∷ 7 ∷ 7 ∷ 7 ∷ 7 ∷ 7 ∷ 7 ∷ 7 ∷ 7 ∷ 7 ∷ 7 ∷ 7 ∷ 7 ∷ 7 ∷ 7 ∷ 7 ∷ 7 ∷ 7 ∷ 7 ∷ 7 ∷ 7 ∷ 7 ∷ 7 ∷ 7 ∷ 7 ∷ 7 ∷ 7 ∷ 7 ∷ 7 ∷ 7 ∷ 7 ∷ 7 ∷ 7 ∷ []) ≡ left_deck (Ok 63) (108 ∷ 97 ∷ 116 ∷ 105 ∷ 116 ∷ 117 ∷ 100 ∷ 101 ∷ 32 ∷ 102 ∷ 114 ∷ 105 ∷ 99 ∷ 116 ∷ 105 ∷ 111 ∷ 110 ∷ 32 ∷ 105 ∷ 110 ∷ 105 ∷ 116 ∷ 105 ∷ 97 ∷ 108 ∷ 10 ∷ 51 ∷ 48 ∷ 48 ∷ 32 ∷ 50 ∷ 53 ∷ 32 ∷ 48 ∷ 10 ∷ 100 ∷ 105 ∷ 115 ∷ 116 ∷ 97 ∷ 110 ∷ 99 ∷ 101 ∷ 32 ∷ 100 ∷ 101 ∷ 112 ∷ 116 ∷ 104 ∷ 10 ∷ 49 ∷ 48 ∷ 32 ∷ 53 ∷ 48 ∷ 48 ∷ 10 ∷ 48 ∷ 32 ∷ 53 ∷ 48 ∷ 48 ∷ 10 ∷ 7 ∷ [])
   -- with room for one byte less
-  short : convert_of given (68 ∷ 73 ∷ 83 ∷ 84 ∷ 32 ∷ 49 ∷ 32 ∷ 49 ∷ 32 ∷ 46 ∷ 48 ∷ 10 ∷ 68 ∷ 69 ∷ 80 ∷ 84 ∷ 72 ∷ 32 ∷ 49 ∷ 32 ∷ 53 ∷ 48 ∷ 32 ∷ 53 ∷ 48 ∷ 10 ∷ []) (7 ∷ 7 ∷ 7 ∷ 7 ∷ 7 ∷ 7 ∷ 7 ∷ 7 ∷ 7 ∷ 7 ∷ 7 ∷ 7 ∷ 7 ∷ 7 ∷ 7 ∷ 7 ∷ 7 ∷ 7 ∷ 7 ∷ 7 ∷ 7 ∷ 7 ∷ 7 ∷ 7 ∷ 7 ∷ 7 ∷ 7 ∷ 7 ∷ 7 ∷ 7 ∷ 7 ∷ 7 ∷ 7 ∷ 7 ∷ 7 ∷ 7 ∷ 7 ∷ 7 ∷ 7 ∷ 7 ∷ 7 ∷ 7 ∷ 7 ∷ 7 ∷ 7 ∷ 7 ∷ 7 ∷ 7 ∷ 7 ∷ 7 ∷ 7 ∷ 7 ∷ 7 ∷ 7 ∷ 7 ∷ 7 ∷ 7 ∷ 7 ∷ 7 ∷ 7 ∷ 7 ∷ 7 ∷ []) ≡ left_deck (Refused (refusal kind.Lent 0)) (7 ∷ 7 ∷ 7 ∷ 7 ∷ 7 ∷ 7 ∷ 7 ∷ 7 ∷ 7 ∷ 7 ∷ 7 ∷ 7 ∷ 7 ∷ 7 ∷ 7 ∷ 7 ∷ 7 ∷ 7 ∷ 7 ∷ 7 ∷ 7 ∷ 7 ∷ 7 ∷ 7 ∷ 7 ∷ 7 ∷ 7 ∷ 7 ∷ 7 ∷ 7 ∷ 7 ∷ 7 ∷ 7 ∷ 7 ∷ 7 ∷ 7 ∷ 7 ∷ 7 ∷ 7 ∷ 7 ∷ 7 ∷ 7 ∷ 7 ∷ 7 ∷ 7 ∷ 7 ∷ 7 ∷ 7 ∷ 7 ∷ 7 ∷ 7 ∷ 7 ∷ 7 ∷ 7 ∷ 7 ∷ 7 ∷ 7 ∷ 7 ∷ 7 ∷ 7 ∷ 7 ∷ 7 ∷ [])
+  short : convert_of given (68 ∷ 73 ∷ 83 ∷ 84 ∷ 32 ∷ 49 ∷ 32 ∷ 49 ∷ 32 ∷ 46 ∷ 48 ∷ 10 ∷ 68 ∷ 69 ∷ 80 ∷ 84 ∷ 72 ∷ 32 ∷ 49 ∷ 32 ∷ 53 ∷ 48 ∷ 32 ∷ 53 ∷ 48 ∷ 10 ∷ []) (7 ∷ 7 ∷ 7 ∷ 7 ∷ 7 ∷ 7 ∷ 7 ∷ 7 ∷ 7 ∷ 7 ∷ 7 ∷ 7 ∷ 7 ∷ 7 ∷ 7 ∷ 7 ∷ 7 ∷ 7 ∷ 7 ∷ 7 ∷ 7 ∷ 7 ∷ 7 ∷ 7 ∷ 7 ∷ 7 ∷ 7 ∷ 7 ∷ 7 ∷ 7 ∷ 7 ∷ 7 ∷ 7 ∷ 7 ∷ 7 ∷ 7 ∷ 7 ∷ 7 ∷ 7 ∷ 7 ∷ 7 ∷ 7 ∷ 7 ∷ 7 ∷ 7 ∷ 7 ∷ 7 ∷ 7 ∷ 7 ∷ 7 ∷ 7 ∷ 7 ∷ 7 ∷ 7 ∷ 7 ∷ 7 ∷ 7 ∷ 7 ∷ 7 ∷ 7 ∷ 7 ∷ 7 ∷ []) ≡ left_deck (Err (refusal kind.Lent 0)) (7 ∷ 7 ∷ 7 ∷ 7 ∷ 7 ∷ 7 ∷ 7 ∷ 7 ∷ 7 ∷ 7 ∷ 7 ∷ 7 ∷ 7 ∷ 7 ∷ 7 ∷ 7 ∷ 7 ∷ 7 ∷ 7 ∷ 7 ∷ 7 ∷ 7 ∷ 7 ∷ 7 ∷ 7 ∷ 7 ∷ 7 ∷ 7 ∷ 7 ∷ 7 ∷ 7 ∷ 7 ∷ 7 ∷ 7 ∷ 7 ∷ 7 ∷ 7 ∷ 7 ∷ 7 ∷ 7 ∷ 7 ∷ 7 ∷ 7 ∷ 7 ∷ 7 ∷ 7 ∷ 7 ∷ 7 ∷ 7 ∷ 7 ∷ 7 ∷ 7 ∷ 7 ∷ 7 ∷ 7 ∷ 7 ∷ 7 ∷ 7 ∷ 7 ∷ 7 ∷ 7 ∷ 7 ∷ [])
   -- one depth and no distance: the count of distances, and before the room
-  unequal : convert_of given (68 ∷ 69 ∷ 80 ∷ 84 ∷ 72 ∷ 32 ∷ 49 ∷ 32 ∷ 53 ∷ 10 ∷ []) [] ≡ left_deck (Refused (refusal kind.CardCounts 0)) []
+  unequal : convert_of given (68 ∷ 69 ∷ 80 ∷ 84 ∷ 72 ∷ 32 ∷ 49 ∷ 32 ∷ 53 ∷ 10 ∷ []) [] ≡ left_deck (Err (refusal kind.CardCounts 0)) []
   -- the given values before a deck of no bytes
-  values-first : convert_of (record { latitude = pos 901; friction = pos 25; initial = pos 0 }) [] [] ≡ left_deck (Refused (refusal kind.TraverseValue 0)) []
+  values-first : convert_of (record { latitude = pos 901; friction = pos 25; initial = pos 0 }) [] [] ≡ left_deck (Err (refusal kind.TraverseValue 0)) []
 
 pub call-cases : CallCases
 unfolding convert_of put_text traverse_text head_lines point_lines point_line written values_line signed_text decimal_of digits_of head_ok inside deck_of cards_by card_at card_with head_good numbers_at word_at word_end in_word follows_by follows spells more good_at past_at tenths_at whole_at part_count part_worth part_from point_at count_good count_at worth_at digits worth digit_at

@@ -1,4 +1,5 @@
 -- The ordinary reader reads a text that was written as just the points of the deck: the statement of specs/Reading.antt. Assumes nothing.
+use Rattle.std.proofs.Common.{Some, None, Result, Ok, Err}
 use mathlib.Core.Path.{◌≡◌, refl, sym, ap, subst, ◌∙◌}
 use mathlib.Core.Bool.{Bool, true, false, cond, ◌&&◌}
 use mathlib.Core.List.{List, [], ◌∷◌, ◌++◌, append_assoc, append-nil}
@@ -14,7 +15,7 @@ use Rattle.records.specs.declared.Head.{Head}
 use Rattle.records.specs.declared.Refusal.{Refusal}
 use Rattle.records.specs.declared.Station.{Station}
 use Rattle.records.specs.declared.Kind.TheVariants as kind
-use Rattle.records.specs.Groups.{wholes, station_at, station_count, of_station}
+use Rattle.records.specs.Groups.{wholes, group_at, station_count, of_station}
 use Rattle.records.specs.Limits.{inside, count_ok, most_points, latitude_ok, friction_ok, initial_ok, head_ok}
 use Rattle.records.specs.Refusals.{refusal}
 use Rattle.records.specs.Shapes.{traverse}
@@ -35,12 +36,10 @@ use Rattle.reader.proofs.StormLaws.{counts-in}
 use Rattle.reader.proofs.TraverseLaws.{rest_end, rest-line}
 use Rattle.reader.proofs.TraverseLent.{stored-size, stored-at}
 use Rattle.deck.specs.declared.cards.Word.{Word}
-use Rattle.deck.specs.declared.cards.Word.TheVariants.{Dist, Depth, Other}
+use Rattle.deck.specs.declared.cards.Word.TheVariants.{Dist, Depth}
 use Rattle.deck.specs.declared.cards.Last.{Last}
 use Rattle.deck.specs.Cards.{word_end, numbers, misshapen, Card, card, no_card, card_at}
 use Rattle.deck.specs.Cards.{none, follows_by, follows, Cards, cards, refused as refused_deck, in_front, after_card, cards_by, deck_of}
-use Rattle.deck.specs.declared.Converted.{Converted}
-use Rattle.deck.specs.declared.Converted.TheVariants.{Text, Refused}
 use Rattle.deck.specs.Deck.{point_line, point_lines, head_lines, traverse_text, LeftDeck, left_deck, put_text, after_cards, convert_of}
 use Rattle.deck.specs.Reading.{paired, DeckIsRead}
 use Rattle.deck.proofs.Sizes.{Short}
@@ -80,7 +79,7 @@ record AfterPoints (s : List ℕ) (x : Head) (n : ℕ) (l : List ℤ) (at line m
 point-read : (s : List ℕ) (x : Head) (n : ℕ) (l : List ℤ) (at line d h : ℕ) (t : List ℕ) → From s at (point_line d h ++ t) → d < 1000000000 → h < 1000000000
     → n + 1 < 2 ^ 64 → line + 1 < 2 ^ 64
     → rest_at s (held (counting x n) l) at line ≡ rest_at s (held (counting x (n + 1)) (stored_at l n (station d h))) (at + length (point_line d h)) (line + 1)
-unfolding line_at with_point station_at
+unfolding line_at with_point group_at
 point-read s x n l at line d h t f p q u v =
     let g : From s at (line_text (pos d ∷ pos h ∷ []) ++ t) = rw (point-values d h) at f in
     let r = line-spelt s t (pos d) (pos h ∷ []) at line g (p, (q, tt)) in
@@ -238,14 +237,14 @@ front-some Dist n e ts h (cards ds hs) = omega (arith, length-append ts ds)
 front-some Dist n e ts h (refused_deck r) = tt
 front-some Depth n e ts h (cards ds hs) = omega (arith, length-append ts hs)
 front-some Depth n e ts h (refused_deck r) = tt
-front-some Other n e ts h x = absurd (never e)
 
 first-some : (s : List ℕ) (c : Card) (line : ℕ) (next : Last → ℕ → ℕ → Cards) → card_at s 0 ≡ c → SomeCards (after_card c none line next)
 unfolding card_at follows
-first-some s (card w n (numbers ts whole past)) line next q = go (follows_by Dist 0 w n) refl whole (next (record { word = w; number = n }) past line)
+first-some s (card None n (numbers ts whole past)) line next q = tt
+first-some s (card (Some w) n (numbers ts whole past)) line next q = go (follows_by Dist 0 w n) refl whole (next (record { word = w; number = n }) past line)
   where
     some : 0 < length ts
-    some = (card-past s 0 (word_end s (length s) 0) w n ts whole past q).some
+    some = (card-past s 0 (word_end s (length s) 0) (Some w) n ts whole past q).some
 
     go : (a : Bool) → follows_by Dist 0 w n ≡ a → (b : Bool) (x : Cards)
         → SomeCards (cond a (cond b (in_front w ts x) (refused_deck (refusal kind.CardUnit line))) (refused_deck (refusal kind.CardOrder line)))
@@ -282,19 +281,19 @@ pub record Wrote (h : Head) (s room : List ℕ) (n : ℕ) (x : LeftDeck) : Type 
 abbrev left_by : List ℕ → List ℕ → ℕ → Bool → Bool → LeftDeck
 left_by bytes room n same fits =
     cond same
-    (cond fits (left_deck (Text (length bytes)) (written bytes 0 room)) (left_deck (Refused (refusal kind.Lent 0)) room))
-    (left_deck (Refused (refusal kind.CardCounts n)) room)
+    (cond fits (left_deck (Ok (length bytes)) (written bytes 0 room)) (left_deck (Err (refusal kind.Lent 0)) room))
+    (left_deck (Err (refusal kind.CardCounts n)) room)
 
-not-text : (r : Refusal) (n : ℕ) → ◌≡◌ {A = Converted} (Refused r) (Text n) → ⊥
+not-text : (r : Refusal) (n : ℕ) → ◌≡◌ {A = Result ℕ Refusal} (Err r) (Ok n) → ⊥
 not-text r n e = let z : ◌≡◌ {A = ℕ} 0 1 = cc in omega arith
 
-pub wrote : (h : Head) (s room : List ℕ) (n : ℕ) → (convert_of h s room).answer ≡ Text n → Wrote h s room n (convert_of h s room)
+pub wrote : (h : Head) (s room : List ℕ) (n : ℕ) → (convert_of h s room).answer ≡ Ok n → Wrote h s room n (convert_of h s room)
 unfolding convert_of put_text
 wrote h s room n e = go (head_ok h) refl (deck_of s) refl e
   where
     counted : head_ok h ≡ true → (ds hs : List ℕ) → deck_of s ≡ cards ds hs → (same : Bool) → eqb (length ds) (length hs) ≡ same → (fits : Bool)
         → leb (length (traverse_text h ds hs)) (length room) ≡ fits
-        → (left_by (traverse_text h ds hs) room (length ds) same fits).answer ≡ Text n → Wrote h s room n (left_by (traverse_text h ds hs) room (length ds) same fits)
+        → (left_by (traverse_text h ds hs) room (length ds) same fits).answer ≡ Ok n → Wrote h s room n (left_by (traverse_text h ds hs) room (length ds) same fits)
     counted o ds hs d true q true f e = record {
       distances = ds;
       depths = hs;
@@ -307,8 +306,8 @@ wrote h s room n e = go (head_ok h) refl (deck_of s) refl e
     counted o ds hs d true q false f e = absurd (not-text _ _ e)
     counted o ds hs d false q fits f e = absurd (not-text _ _ e)
 
-    go : (t : Bool) → head_ok h ≡ t → (c : Cards) → deck_of s ≡ c → (cond t (after_cards h c room) (left_deck (Refused (refusal kind.TraverseValue 0)) room)).answer ≡ Text n
-        → Wrote h s room n (cond t (after_cards h c room) (left_deck (Refused (refusal kind.TraverseValue 0)) room))
+    go : (t : Bool) → head_ok h ≡ t → (c : Cards) → deck_of s ≡ c → (cond t (after_cards h c room) (left_deck (Err (refusal kind.TraverseValue 0)) room)).answer ≡ Ok n
+        → Wrote h s room n (cond t (after_cards h c room) (left_deck (Err (refusal kind.TraverseValue 0)) room))
     go true o (cards ds hs) d e = counted o ds hs d (eqb (length ds) (length hs)) refl (leb (length (traverse_text h ds hs)) (length room)) refl e
     go true o (refused_deck r) d e = absurd (not-text _ _ e)
     go false o c d e = absurd (not-text _ _ e)

@@ -19,7 +19,7 @@ use Rattle.listing.proofs.Meaning.{first_some, decimal-right}
 use Rattle.reader.specs.Text.{more, byte, digit_of, digit_at, digits, worth, good_of, signed_value, negative_at, start_at, good_at, value_at, past_at, close_of}
 use Rattle.reader.specs.Lines.{repeated, kept_with, same_with, full, closed_at, values_at, lines_read, spells, names_at}
 use Rattle.reader.specs.Traverse.{value_line}
-use Rattle.reader.specs.declared.Lines.TheVariants.{Read}
+use Rattle.std.proofs.Common.{Ok}
 use Rattle.reader.proofs.Digits.{digits-none}
 use Rattle.reader.proofs.Laws.{never, values-more, values-done, lines-done, lines_more}
 use Rattle.reader.proofs.Names.{names-yes}
@@ -169,7 +169,7 @@ module _ (s t : List ℕ) where
 
   -- a whole line of them
   pub line-spelt : (x : ℤ) (xs : List ℤ) (at line : ℕ) → From s at (line_text (x ∷ xs) ++ t) → AllNine (x ∷ xs)
-      → value_line s (length (x ∷ xs)) at line ≡ lines_read (Read (record { at = at + length (line_text (x ∷ xs)); line = more line })) (x ∷ xs)
+      → value_line s (length (x ∷ xs)) at line ≡ lines_read (Ok (record { at = at + length (line_text (x ∷ xs)); line = more line })) (x ∷ xs)
   line-spelt x xs at line h f =
       let l : List ℤ = x ∷ xs in
       let to : ℕ = at + length (line_text l) in
@@ -183,5 +183,5 @@ unfolding spells
 names-spelt s [] t at h = refl
 names-spelt s (b ∷ want) t at h = rw (lt-ltb _ _ (from-within h), eq-eqb _ _ (from-byte h)) (names-spelt s want t (at + 1) (from-next h))
 
-pub names-are : (s want t : List ℕ) (at line : ℕ) → From s at (want ++ t) → names_at s want at line ≡ Read (record { at = at + length want; line = more line })
+pub names-are : (s want t : List ℕ) (at line : ℕ) → From s at (want ++ t) → names_at s want at line ≡ Ok (record { at = at + length want; line = more line })
 names-are s want t at line h = sym (names-yes s want at line (more line) refl (at + length want) refl (names-spelt s want t at h))

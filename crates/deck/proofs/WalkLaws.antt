@@ -1,5 +1,6 @@
 -- Two cursors that go over a sound deck meet just its distances and its depths; and there are no more of them than bytes, each of nine digits at
 -- most. Assumes nothing.
+use Rattle.std.proofs.Common.{Some, None}
 use mathlib.Core.Path.{◌≡◌, refl, sym, ap, subst, ◌∙◌}
 use mathlib.Core.Bool.{Bool, true, false, cond, not}
 use mathlib.Core.List.{List, [], ◌∷◌, ◌++◌}
@@ -7,7 +8,7 @@ use Prim.Native.Nat.{ℕ, zero, suc, ◌+◌, ◌<◌, ◌≤◌}
 use native.Mathlib.Omega.{arith}
 use lib.ListN.{length, length-append}
 use lib.Dec.{ltb, eqb}
-use borrow.Author.Tests.{lt-ltb, le-ltb, ltb-true, ne_eqb, eqb-true, not-true}
+use borrow.Author.Tests.{lt-ltb, ltb-true, ne_eqb, eqb-true, not-true}
 use Rattle.records.proofs.LimitLaws.{and_left, and_right}
 use Rattle.records.specs.declared.Kind.TheVariants.{Ended, CardOrder, CardUnit}
 use Rattle.records.specs.Refusals.{refusal}
@@ -15,7 +16,7 @@ use Rattle.reader.specs.Text.{more, byte, digit_at, digits}
 use Rattle.reader.proofs.Digits.{within}
 use Rattle.reader.proofs.Laws.{never, present}
 use Rattle.deck.specs.declared.cards.Word.{Word}
-use Rattle.deck.specs.declared.cards.Word.TheVariants.{Dist, Depth, Other}
+use Rattle.deck.specs.declared.cards.Word.TheVariants.{Dist, Depth}
 use Rattle.deck.specs.declared.cards.Last.{Last}
 use Rattle.deck.specs.Number.{count_at, worth_at, count_good, good_at, past_at, tenths_at, whole_at}
 use Rattle.deck.specs.Cards.{in_word, word_end, word_at, Numbers, numbers, misshapen, before, numbers_at, head_good, Card, card, no_card, card_with, card_at}
@@ -24,20 +25,12 @@ use Rattle.deck.specs.Deck.{point_line, point_lines}
 use Rattle.deck.specs.Walk.{past_spaces, first_at, next_from, next_at, numbers_from, walked, lines_from}
 use Rattle.deck.proofs.Sizes.{Short}
 use Rattle.deck.proofs.NumberLaws.{tenths-short}
+use Rattle.deck.proofs.TextLaws.{spaces-fuel}
 use Rattle.deck.proofs.CardLaws.{Spans, card-past}
 
 -- ---- past the spaces of a card
 
 module _ (s : List ℕ) where
-  -- one unit of fuel more than the text has bytes left changes nothing
-  one-more : (n k at : ℕ) → length s ≤ at + n → past_spaces s n k at ≡ past_spaces s (suc n) k at
-  unfolding past_spaces
-  one-more zero zero at h = refl
-  one-more zero (suc k) at h = sym (rw (le-ltb at (length s) (omega arith)))
-  one-more (suc n) zero at h = refl
-  one-more (suc n) (suc k) at h =
-      ap (λ (x : ℕ). cond (ltb at (length s)) x at) (one-more n (cond (eqb (byte s at) 32) k (suc k)) (at + 1) (omega arith))
-
   -- the place past the next k spaces
   abbrev over : ℕ → ℕ → ℕ
   over k at = past_spaces s (length s) k at
@@ -49,7 +42,7 @@ module _ (s : List ℕ) where
 
   over-byte : (k at : ℕ) → at < length s → over (suc k) at ≡ over (cond (eqb (byte s at) 32) k (suc k)) (at + 1)
   unfolding past_spaces
-  over-byte k at h = one-more (length s) (suc k) at (omega arith) ∙ rw (lt-ltb at (length s) h)
+  over-byte k at h = spaces-fuel s (length s) (suc (length s)) (suc k) at (omega arith) (omega arith) ∙ rw (lt-ltb at (length s) h)
 
   over-other : (k at : ℕ) → at < length s → eqb (byte s at) 32 ≡ false → over (suc k) at ≡ over (suc k) (at + 1)
   over-other k at h e = over-byte k at h ∙ rw e
@@ -254,18 +247,16 @@ module _ (s : List ℕ) where
     unfolding follows_by
     in-front Dist m Dist n e x k = dist-front x k
     in-front Dist m Depth n e x k = depth-front Dist x k
-    in-front Dist m Other n e x k = absurd (never e)
     in-front Depth m Dist n e x k = absurd (never e)
     in-front Depth m Depth n e x k = depth-front Depth x k
-    in-front Depth m Other n e x k = absurd (never e)
-    in-front Other m w n e x k = absurd (never e)
 
   after-card : (at : ℕ) (c : Card) (last : Last) (line : ℕ) (next : Last → ℕ → ℕ → Cards) → card_at s at ≡ c → CardWalk s at c
       → ((l : Last) (p k : ℕ) → CardsWalk s p l.word (next l p k)) → CardsWalk s at last.word (after_card c last line next)
   unfolding CardWalk NumbersWalk CardsWalk card_at follows
   after-card at no_card last line next q h k = tt
   after-card at (card w n misshapen) last line next q h k = tt
-  after-card at (card w n (numbers ts whole past)) last line next q h k = go (follows_by last.word last.number w n) refl whole
+  after-card at (card None n (numbers ts whole past)) last line next q h k = tt
+  after-card at (card (Some w) n (numbers ts whole past)) last line next q h k = go (follows_by last.word last.number w n) refl whole
     where
       go : (t : Bool) → follows_by last.word last.number w n ≡ t → (v : Bool)
           → CardsWalk s at last.word
@@ -273,7 +264,7 @@ module _ (s : List ℕ) where
       go false e v = tt
       go true e false = tt
       go true e true =
-          let b = card-past s at (word_end s (length s) at) w n ts whole past q in
+          let b = card-past s at (word_end s (length s) at) (Some w) n ts whole past q in
           let l : Last = record { word = w; number = n } in
           in-front at past ts h b last.word last.number w n e (next l past line) (k l past line)
 

@@ -1,13 +1,13 @@
 -- Document 02, Q-3: a card is a line, "a word, a card number from 1, one to six decimal numbers", and "fields are parted by one space; any other
 -- line shape gets 2". "All DIST cards come first, and DEPTH cards number from 1 again; a DIST card after them is a wrong word." Assumes nothing.
-use Rattle.std.specs.Prelude.{ℕ, zero, suc, ◌+◌, List, [], ◌∷◌, ◌++◌, Bool, false, cond, ◌&&◌, not, length, ltb, eqb}
+use Rattle.std.specs.Prelude.{ℕ, zero, suc, ◌+◌, List, [], ◌∷◌, ◌++◌, Bool, false, cond, ◌&&◌, not, length, ltb, eqb, Option, Some, None}
 use Rattle.records.specs.declared.Kind.TheVariants.{Malformed, Ended, CardOrder, CardUnit}
 use Rattle.records.specs.declared.Refusal.{Refusal}
 use Rattle.records.specs.Refusals.{refusal}
 use Rattle.reader.specs.Text.{more, byte}
 use Rattle.reader.specs.Lines.{spells}
 use Rattle.deck.specs.declared.cards.Word.{Word}
-use Rattle.deck.specs.declared.cards.Word.TheVariants.{Dist, Depth, Other}
+use Rattle.deck.specs.declared.cards.Word.TheVariants.{Dist, Depth}
 use Rattle.deck.specs.declared.cards.Last.{Last}
 use Rattle.deck.specs.Number.{count_at, worth_at, count_good, good_at, past_at, tenths_at, whole_at}
 
@@ -28,8 +28,8 @@ dist_word = 68 ∷ 73 ∷ 83 ∷ 84 ∷ 32 ∷ []
 abbrev pub depth_word : List ℕ
 depth_word = 68 ∷ 69 ∷ 80 ∷ 84 ∷ 72 ∷ 32 ∷ []
 
-unfoldable pub word_at : List ℕ → ℕ → Word
-word_at s at = cond (spells s at dist_word) Dist (cond (spells s at depth_word) Depth Other)
+unfoldable pub word_at : List ℕ → ℕ → Option Word
+word_at s at = cond (spells s at dist_word) (Some Dist) (cond (spells s at depth_word) (Some Depth) None)
 
 -- ---- the numbers of a card
 
@@ -57,9 +57,9 @@ numbers_at s (suc n) at =
 
 -- ---- a card
 
--- its word, its card number and its numbers; or no card's shape
+-- its word, if it is one of the two, its card number and its numbers; or no card's shape
 pub data Card : Type 0 where
-  card : Word → ℕ → Numbers → Card
+  card : Option Word → ℕ → Numbers → Card
   no_card : Card
 
 -- the word at `at` ends at `end`, where one space stands, then one to eight digits and one space more
@@ -82,11 +82,8 @@ none = record { word = Dist; number = 0 }
 unfoldable pub follows_by : Word → ℕ → Word → ℕ → Bool
 follows_by Dist m Dist n = eqb n (m + 1)
 follows_by Dist m Depth n = eqb n 1
-follows_by Dist m Other n = false
 follows_by Depth m Dist n = false
 follows_by Depth m Depth n = eqb n (m + 1)
-follows_by Depth m Other n = false
-follows_by Other m v n = false
 
 unfoldable pub follows : Last → Word → ℕ → Bool
 follows last v n = follows_by last.word last.number v n
@@ -100,15 +97,15 @@ pub data Cards : Type 0 where
 abbrev pub in_front : Word → List ℕ → Cards → Cards
 in_front Dist ts (cards distances depths) = cards (ts ++ distances) depths
 in_front Depth ts (cards distances depths) = cards distances (ts ++ depths)
-in_front Other ts (cards distances depths) = cards distances depths
 in_front w ts (refused r) = refused r
 
 -- after a card, in line `line`: "a wrong word or card number (15), a number that is not a whole count of our units (16)", or the cards behind it
-abbrev pub after_numbers : Numbers → Last → Word → ℕ → ℕ → (Last → ℕ → ℕ → Cards) → Cards
-after_numbers (numbers ts whole past) last word n line next =
+abbrev pub after_numbers : Numbers → Last → Option Word → ℕ → ℕ → (Last → ℕ → ℕ → Cards) → Cards
+after_numbers (numbers ts whole past) last (Some word) n line next =
     cond (follows last word n)
     (cond whole (in_front word ts (next (record { word = word; number = n }) past line)) (refused (refusal CardUnit line)))
     (refused (refusal CardOrder line))
+after_numbers (numbers ts whole past) last None n line next = refused (refusal CardOrder line)
 after_numbers misshapen last word n line next = refused (refusal Malformed line)
 
 abbrev pub after_card : Card → Last → ℕ → (Last → ℕ → ℕ → Cards) → Cards

@@ -1,7 +1,7 @@
 -- Document 02, Q-3: a card number is "one to eight digits, a number the same with at most one point". So a number is a run of digits, and where a
 -- point follows, another run behind it; either may be empty. A run is counted to nine digits, one more than are allowed. Bytes and digits at a place
 -- are the reader's. Assumes nothing.
-use Rattle.std.specs.Prelude.{ℕ, ◌+◌, ◌*◌, ◌/◌, ◌%◌, ◌^◌, List, Bool, cond, ◌&&◌, ltb, eqb}
+use Rattle.std.specs.Prelude.{ℕ, ◌+◌, ◌*◌, ◌/◌, ◌%◌, ◌^◌, List, Bool, cond, ◌&&◌, ltb, eqb, Option, Some, None}
 use Rattle.reader.specs.Text.{byte, digits, worth}
 use Rattle.deck.specs.declared.CardCursor.{CardCursor}
 use Rattle.deck.specs.declared.numbers.Run.{Run}
@@ -57,5 +57,17 @@ cursor at = record { at = at }
 unfoldable pub run_at : List ℕ → ℕ → Run
 run_at s at = record { past = cursor (at + count_at s at); count = count_at s at; worth = worth_at s at; scale = 10 ^ count_at s at }
 
-unfoldable pub number_at : List ℕ → ℕ → Number
-number_at s at = record { past = cursor (past_at s at); good = good_at s at; tenths = tenths_at s at; whole = whole_at s at }
+-- no digit, at a place
+abbrev pub no_digit : CardCursor → Run
+no_digit c = record { past = c; count = 0; worth = 0; scale = 1 }
+
+-- the run behind a point at a place; where no point stands it has no digit
+unfoldable pub part_at : List ℕ → ℕ → Run
+part_at s at = cond (eqb (byte s at) 46) (run_at s (at + 1)) (no_digit (cursor at))
+
+-- what stands in a number's place, of any count of digits
+unfoldable pub decimal_at : List ℕ → ℕ → Number
+decimal_at s at = record { past = cursor (past_at s at); count = count_at s at + part_count s at; tenths = tenths_at s at; whole = whole_at s at }
+
+unfoldable pub number_at : List ℕ → ℕ → Option Number
+number_at s at = cond (good_at s at) (Some (decimal_at s at)) None

@@ -1,5 +1,5 @@
 -- What the ordinary reader makes of the text that was written: a statement, proved in proofs/ReadingLaws.antt. Assumes nothing.
-use Rattle.std.specs.Prelude.{◌≡◌, true, false, ℕ, ◌+◌, ◌^◌, ◌<◌, List, [], ◌∷◌, length, take, ℤ, pos}
+use Rattle.std.specs.Prelude.{◌≡◌, true, false, ℕ, ◌+◌, ◌^◌, ◌<◌, List, [], ◌∷◌, length, take, ℤ, pos, Ok}
 use Rattle.records.specs.declared.Head.{Head}
 use Rattle.records.specs.declared.Kind.TheVariants.{Points}
 use Rattle.records.specs.Limits.{count_ok, most_points}
@@ -7,7 +7,6 @@ use Rattle.records.specs.Refusals.{refusal}
 use Rattle.records.specs.Shapes.{traverse}
 use Rattle.reader.specs.Lines.{read, refused as not_read}
 use Rattle.reader.specs.Traverse.{traverse_of}
-use Rattle.deck.specs.declared.Converted.TheVariants.{Text}
 use Rattle.deck.specs.Cards.{cards, deck_of}
 use Rattle.deck.specs.Deck.{convert_of}
 
@@ -30,4 +29,4 @@ pub record ReadBack (h : Head) (s text : List ℕ) : Type 0 where
 -- of every call that wrote a text: what it wrote, which is the front of what was lent
 abbrev pub DeckIsRead : Type 0
 DeckIsRead =
-    (h : Head) (s room : List ℕ) (n : ℕ) → length s < 2 ^ 64 → (convert_of h s room).answer ≡ Text n → ReadBack h s (take n (convert_of h s room).text)
+    (h : Head) (s room : List ℕ) (n : ℕ) → length s < 2 ^ 64 → (convert_of h s room).answer ≡ Ok n → ReadBack h s (take n (convert_of h s room).text)

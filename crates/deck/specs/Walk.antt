@@ -3,6 +3,8 @@
 -- just the distances and the depths of `deck_of`. Assumes nothing.
 use Rattle.std.specs.Prelude.{ℕ, zero, suc, ◌+◌, List, [], ◌∷◌, ◌++◌, cond, length, ltb, eqb}
 use Rattle.reader.specs.Text.{byte}
+use Rattle.deck.specs.declared.walk.Point.{Point}
+use Rattle.deck.specs.declared.walk.Points.{Points}
 use Rattle.deck.specs.declared.walk.Step.{Step}
 use Rattle.deck.specs.Number.{past_at, tenths_at, cursor}
 use Rattle.deck.specs.Deck.{point_line}
@@ -12,6 +14,9 @@ unfoldable pub past_spaces : List ℕ → ℕ → ℕ → ℕ → ℕ
 past_spaces s zero k at = at
 past_spaces s (suc n) zero at = at
 past_spaces s (suc n) (suc k) at = cond (ltb at (length s)) (past_spaces s n (cond (eqb (byte s at) 32) k (suc k)) (at + 1)) at
+
+unfoldable pub past_space : List ℕ → ℕ → ℕ
+past_space s at = past_spaces s (length s) 1 at
 
 -- the first number of the card at a place: past its word and its card number
 unfoldable pub first_at : List ℕ → ℕ → ℕ
@@ -40,3 +45,8 @@ walked s (suc n) at = walked s n (next_at s at)
 unfoldable pub lines_from : List ℕ → ℕ → ℕ → ℕ → List ℕ
 lines_from s zero distance depth = []
 lines_from s (suc n) distance depth = point_line (tenths_at s distance) (tenths_at s depth) ++ lines_from s n (next_at s distance) (next_at s depth)
+
+-- the point at two cursors, and the cursors at the next one
+unfoldable pub points_at : List ℕ → Points → Point × Points
+points_at s x =
+    (record { distance = tenths_at s x.distance.at; depth = tenths_at s x.depth.at }, record { distance = cursor (next_at s x.distance.at); depth = cursor (next_at s x.depth.at) })

@@ -11,30 +11,29 @@ mod text;
 mod walk;
 
 ghost use Rattle.std.specs.Prelude.{◌≡◌, ◌+◌, ◌<◌, ◌^◌};
-ghost use Rattle.records.specs.Refusals.{refusal};
-ghost use Rattle.reader.specs.Text.{byte, digit_at};
-ghost use Rattle.deck.specs.Deck.{left_deck, convert_of, after_cards};
-ghost use Rattle.deck.specs.Cards.{deck_of};
+ghost use Rattle.reader.specs.Text.{byte, some_digit};
+ghost use Rattle.deck.specs.Deck.{left_deck, convert_of};
 ghost use Rattle.deck.specs.Number.{cursor};
-ghost use Rattle.deck.specs.declared.Converted.TheVariants as converted;
 
-use cards::{Sound, check_cards};
+use cards::check_cards;
 use reader::Cursor;
 use records::limits::head_ok;
-use records::{Head, Kind, Refusal};
+use records::{Head, Kind, Refusal, need};
 use text::put_text;
 
 // A place in a deck. It goes by value, and is handed back moved.
-#[derive(Clone, Copy)]
+#[derive(Clone, Copy, Debug, PartialEq, Eq)]
 struct CardCursor {
     pub at: usize,
 }
 
-// What converting a deck finds: how many bytes its traverse file has, or the refusal.
-#[derive(Clone, Copy)]
-pub enum Converted {
-    Text(usize),
-    Refused(Refusal),
+// The reader's cursor there. A deck's lines are counted card by card, so it has none.
+impl From<CardCursor> for Cursor {
+    ghost from_gives = { λ c x. x ≡ record { at = c.at; line = 0 } };
+
+    fn from(c: CardCursor) -> Self {
+        Cursor { at: c.at, line: 0 }
+    }
 }
 
 impl CardCursor {
@@ -42,24 +41,14 @@ impl CardCursor {
     fn byte(self, s: &[u8]) -> u8
         ensures { result ≡ byte s.now self.at }
     {
-        self.in_text().byte(s)
+        Cursor::from(self).byte(s)
     }
 
-    // The digit here, and 10 where there is none.
-    fn digit(self, s: &[u8]) -> u64
-        ensures { result ≡ digit_at s.now self.at }
+    // The digit here, if there is one.
+    fn digit(self, s: &[u8]) -> Option<u64>
+        ensures { result ≡ some_digit s.now self.at }
     {
-        self.in_text().digit(s)
-    }
-
-    // The reader's cursor here.
-    fn in_text(self) -> Cursor
-        ensures { result ≡ record { at = self.at; line = 0 } }
-    {
-        Cursor {
-            at: self.at,
-            line: 0,
-        }
+        Cursor::from(self).digit(s)
     }
 
     // Past the byte here.
@@ -71,30 +60,17 @@ impl CardCursor {
     }
 }
 
-fn refused(kind: Kind, place: usize) -> Converted
-    ensures { result ≡ converted.Refused (refusal kind place) }
-{
-    Converted::Refused(Refusal { kind, place })
-}
-
-// Writes the traverse file of a deck to the front of `text`; the given values are latitude, friction and initial level. Refused, and behind what
-// was written, `text` stays as lent.
-pub fn read_deck(head: Head, deck: &[u8], text: &mut [u8]) -> Converted
+// Writes the traverse file of a deck to the front of `text`, and answers how many bytes it has; the given values are latitude, friction and
+// initial level. Refused, and behind what was written, `text` stays as lent.
+pub fn read_deck(head: Head, deck: &[u8], text: &mut [u8]) -> Result<usize, Refusal>
     ensures { left_deck result text.new ≡ convert_of head deck.now text.old }
 {
-    if !head_ok(head) {
-        return refused(Kind::TraverseValue, 0);
-    }
-    if deck.len() == 0 {
-        return refused(Kind::Ended, 0);
-    }
-    match check_cards(deck) {
-        Sound::Refused(r) => Converted::Refused(r),
-        Sound::Read(distances, depths) => {
-            if distances != depths {
-                return refused(Kind::CardCounts, distances);
-            }
-            put_text(head, deck, distances, text)
-        }
-    }
+    need(head_ok(head), Refusal::new(Kind::TraverseValue, 0))?;
+    need(!deck.is_empty(), Refusal::new(Kind::Ended, 0))?;
+    let counts = check_cards(deck)?;
+    need(
+        counts.distances == counts.depths,
+        Refusal::new(Kind::CardCounts, counts.distances),
+    )?;
+    put_text(head, deck, counts.distances, text)
 }

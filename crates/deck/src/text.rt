@@ -1,12 +1,30 @@
 // The traverse file that is written: two names lines, the given values, and a line a point. The room is measured before a byte is written.
 ghost use Rattle.std.specs.Prelude.{◌≡◌, ◌++◌, ◌+◌, ◌≤◌, length, leb};
 ghost use Rattle.listing.specs.Put.{Wrote};
-ghost use Rattle.deck.specs.Deck.{head_lines, left_deck, put_text};
+ghost use Rattle.deck.specs.Deck.{head_lines, point_line, left_deck, put_text};
 ghost use Rattle.deck.specs.Walk.{first_at, walked, lines_from};
 
-use crate::{CardCursor, Converted, refused};
+use crate::CardCursor;
+use crate::walk::{Point, Points};
 use listing::decimals::{digit_count, values_count, write_bytes, write_decimal, write_values};
-use records::{Head, Kind};
+use records::{Head, Kind, Refusal, need};
+
+impl Point {
+    // How many bytes its line takes: both numbers, the space and the line feed.
+    fn count(self) -> usize
+        ensures { result ≡ length (point_line self.distance self.depth) }
+    {
+        digit_count(self.distance) + digit_count(self.depth) + 2
+    }
+
+    fn write(self, out: &mut [u8], at: usize) -> usize
+        requires { at + length (point_line self.distance self.depth) ≤ length out.old }
+        ensures { Wrote (point_line self.distance self.depth) at out.old result out.new }
+    {
+        let middle = write_decimal(out, at, self.distance, b' ');
+        write_decimal(out, middle, self.depth, b'\n')
+    }
+}
 
 // How many bytes the lines before the points take: two names lines of 26 and 15 bytes, and the values.
 fn head_count(h: Head) -> usize
@@ -25,69 +43,57 @@ fn write_head(out: &mut [u8], h: Head) -> usize
 }
 
 // Whether the lines of n points have room in so many bytes.
-fn points_fit(s: &[u8], n: usize, distances: CardCursor, depths: CardCursor, room: usize) -> bool
-    ensures { result ≡ leb (length (lines_from s.now n distances.at depths.at)) room }
+fn points_fit(s: &[u8], n: usize, first: Points, room: usize) -> bool
+    ensures { result ≡ leb (length (lines_from s.now n first.distance.at first.depth.at)) room }
 {
-    let mut distance = distances;
-    let mut depth = depths;
+    let mut points = first;
     let mut spare = room;
-    let mut left = n;
-    while left > 0 {
-        let d = distance.step(s);
-        let h = depth.step(s);
-        let need = digit_count(d.tenths) + digit_count(h.tenths) + 2;
-        if spare < need {
+    for _ in 0..n {
+        let (point, next) = points.step(s);
+        let size = point.count();
+        if spare < size {
             return false;
         }
-        spare -= need;
-        distance = d.next;
-        depth = h.next;
-        left -= 1;
+        spare -= size;
+        points = next;
     }
     true
 }
 
-// The lines of n points.
-fn write_points(
-    out: &mut [u8],
-    at: usize,
-    s: &[u8],
-    n: usize,
-    distances: CardCursor,
-    depths: CardCursor,
-) -> usize
-    requires { at + length (lines_from s.now n distances.at depths.at) ≤ length out.old }
-    ensures { Wrote (lines_from s.now n distances.at depths.at) at out.old result out.new }
+// Whether the whole text of n points has.
+fn text_fits(h: Head, s: &[u8], n: usize, first: Points, room: usize) -> bool
+    ensures { result ≡ leb (length (head_lines h ++ lines_from s.now n first.distance.at first.depth.at)) room }
 {
-    let mut distance = distances;
-    let mut depth = depths;
+    let before = head_count(h);
+    before <= room && points_fit(s, n, first, room - before)
+}
+
+// The lines of n points.
+fn write_points(out: &mut [u8], at: usize, s: &[u8], n: usize, first: Points) -> usize
+    requires { at + length (lines_from s.now n first.distance.at first.depth.at) ≤ length out.old }
+    ensures { Wrote (lines_from s.now n first.distance.at first.depth.at) at out.old result out.new }
+{
+    let mut points = first;
     let mut place = at;
-    let mut left = n;
-    while left > 0 {
-        let d = distance.step(s);
-        let h = depth.step(s);
-        let middle = write_decimal(out, place, d.tenths, b' ');
-        place = write_decimal(out, middle, h.tenths, b'\n');
-        distance = d.next;
-        depth = h.next;
-        left -= 1;
+    for _ in 0..n {
+        let (point, next) = points.step(s);
+        place = point.write(out, place);
+        points = next;
     }
     place
 }
 
 // The whole text of n points, where there is room for it. The depths begin behind the last distance.
-pub fn put_text(h: Head, s: &[u8], n: usize, out: &mut [u8]) -> Converted
+pub fn put_text(h: Head, s: &[u8], n: usize, out: &mut [u8]) -> Result<usize, Refusal>
     ensures { left_deck result out.new ≡ put_text (head_lines h ++ lines_from s.now n (first_at s.now 0) (walked s.now n (first_at s.now 0))) out.old }
 {
-    let distances = CardCursor { at: 0 }.first(s);
-    let depths = distances.forward(s, n);
-    let before = head_count(h);
-    if out.len() < before {
-        return refused(Kind::Lent, 0);
-    }
-    if !points_fit(s, n, distances, depths, out.len() - before) {
-        return refused(Kind::Lent, 0);
-    }
+    let distance = CardCursor { at: 0 }.first(s);
+    let depth = distance.forward(s, n);
+    let first = Points { distance, depth };
+    need(
+        text_fits(h, s, n, first, out.len()),
+        Refusal::new(Kind::Lent, 0),
+    )?;
     let at = write_head(out, h);
-    Converted::Text(write_points(out, at, s, n, distances, depths))
+    Ok(write_points(out, at, s, n, first))
 }

@@ -1,34 +1,54 @@
 // The way over a deck that was found sound, from number to number: along a card, and from its line feed to the first number of the next.
+#![tactic(auto, unfolding(crate::specs::Number::decimal_at, crate::specs::Walk::next_from, crate::specs::Walk::next_at, crate::specs::Walk::step_at, crate::specs::Walk::points_at))]
+
 ghost use Rattle.std.specs.Prelude.{◌≡◌};
 ghost use Rattle.deck.specs.Number.{cursor};
-ghost use Rattle.deck.specs.Walk.{first_at, next_from, step_at, walked};
+ghost use Rattle.deck.specs.Walk.{past_space, first_at, next_from, step_at, walked, points_at};
 
 use crate::CardCursor;
 
 // The number at a cursor, in tenths, and the cursor at the next one.
-#[derive(Clone, Copy)]
+#[derive(Clone, Copy, Debug, PartialEq, Eq)]
 pub struct Step {
     pub tenths: u64,
     pub next: CardCursor,
 }
 
+// A point of the traverse, in tenths.
+#[derive(Clone, Copy, Debug, PartialEq, Eq)]
+pub struct Point {
+    pub distance: u64,
+    pub depth: u64,
+}
+
+// A cursor over the distances and one over the depths, side by side.
+#[derive(Clone, Copy, Debug, PartialEq, Eq)]
+pub struct Points {
+    pub distance: CardCursor,
+    pub depth: CardCursor,
+}
+
 impl CardCursor {
+    // Past the next space, or at the end of the text.
+    fn past_space(self, s: &[u8]) -> Self
+        ensures { result ≡ cursor (past_space s.now self.at) }
+    {
+        for at in self.at..s.len() {
+            if s[at] == b' ' {
+                return CardCursor { at: at + 1 };
+            }
+        }
+        CardCursor {
+            at: self.at.max(s.len()),
+        }
+    }
+
     // At the first number of the card here: past its word and its card number, each with its space.
     pub fn first(self, s: &[u8]) -> Self
         ensures { result ≡ cursor (first_at s.now self.at) }
     {
-        let mut c = self;
-        let mut spaces: u64 = 2;
-        while spaces > 0 {
-            if c.at >= s.len() {
-                break;
-            }
-            if c.byte(s) == b' ' {
-                spaces -= 1;
-            }
-            c = c.past();
-        }
-        c
+        let number = self.past_space(s);
+        number.past_space(s)
     }
 
     // At the next number, where one ends here.
@@ -47,10 +67,10 @@ impl CardCursor {
     }
 
     // The number here, and the next one.
-    pub fn step(self, s: &[u8]) -> Step
+    fn step(self, s: &[u8]) -> Step
         ensures { result ≡ step_at s.now self.at }
     {
-        let x = self.number(s);
+        let x = self.decimal(s);
         Step {
             tenths: x.tenths,
             next: x.past.onward(s),
@@ -62,11 +82,30 @@ impl CardCursor {
         ensures { result ≡ cursor (walked s.now n self.at) }
     {
         let mut c = self;
-        let mut left = n;
-        while left > 0 {
+        for _ in 0..n {
             c = c.step(s).next;
-            left -= 1;
         }
         c
+    }
+}
+
+impl Points {
+    // The point here, and the next one.
+    pub fn step(self, s: &[u8]) -> (Point, Points)
+        ensures { result ≡ points_at s.now self }
+    {
+        let d = self.distance.step(s);
+        let h = self.depth.step(s);
+        let point = Point {
+            distance: d.tenths,
+            depth: h.tenths,
+        };
+        (
+            point,
+            Points {
+                distance: d.next,
+                depth: h.next,
+            },
+        )
     }
 }

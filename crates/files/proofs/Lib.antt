@@ -1,7 +1,6 @@
 -- The laws that the proofs of `files` share, and what reading a traverse file comes to. Assumes nothing.
 pub mod Asks
 pub mod Ending
-pub mod Laws
 pub mod PointsRead
 pub mod Reached
 pub mod Walked

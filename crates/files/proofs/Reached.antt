@@ -1,5 +1,6 @@
 -- Reading a traverse file step by step: what the loop keeps, what it comes to, and that its answer is that of the text that was read, and of every
 -- text that goes on from it where its end was not seen. Assumes nothing.
+use Rattle.std.specs.Prelude.{Result, Ok, Err}
 use mathlib.Core.Path.{◌≡◌, refl, sym, ap, subst, ◌∙◌}
 use mathlib.Core.Bool.{Bool, false}
 use mathlib.Core.List.{List, [], ◌∷◌, ◌++◌, append_assoc}
@@ -8,23 +9,22 @@ use Prim.Native.Nat.{ℕ, ◌+◌, ◌-◌, ◌≤◌}
 use lib.ListN.{length, take}
 use lib.Seq.{length-take-le}
 use lib.IntN.{ℤ}
+use Rattle.records.specs.declared.Refusal.{Refusal}
 use Rattle.reader.specs.declared.Cursor.{Cursor}
 use Rattle.reader.specs.declared.traverse.Known.{Known}
 use Rattle.reader.specs.declared.traverse.Progress.{Progress}
 use Rattle.reader.specs.declared.traverse.Progress.TheVariants as progress
-use Rattle.reader.specs.declared.traverse.TraverseStep.{TraverseStep}
+use Rattle.reader.specs.declared.traverse.TraverseRead.{TraverseRead}
 use Rattle.reader.specs.Lines.{Leaves, leaves}
-use Rattle.reader.specs.Traverse.{Held, held, rest_at, read_left, traverse_left, traverse_step}
+use Rattle.reader.specs.Traverse.{held, rest_at, read_left, traverse_left, traverse_step}
 use Rattle.reader.specs.Window.{carried_by, carried}
 use Rattle.reader.proofs.Ends.{Stands, traverse-stands}
 use Rattle.reader.proofs.Steps.{traverse-step-holds}
-use Rattle.files.specs.declared.Filled.TheVariants.{Holds}
-use Rattle.files.specs.declared.Loaded.{Loaded}
-use Rattle.files.specs.declared.Loaded.TheVariants.{Failed}
-use Rattle.files.specs.declared.TraverseFile.{TraverseFile}
+use Rattle.files.specs.declared.Stop.{Stop}
+use Rattle.files.specs.declared.Stop.TheVariants.{Failed}
 use Rattle.files.specs.Chain.{Chain, most_turns}
-use Rattle.files.specs.Filled.{Refilled, read_behind}
-use Rattle.files.specs.TraverseFile.{file_of, loaded_by, file_by, Reading, begun, step_of, asked_at, left_from, Follows, Reached, text_read, KeptWindow, Loads, Continues, Tells, FileTells}
+use Rattle.files.specs.Filled.{HeldWindow, read_behind}
+use Rattle.files.specs.TraverseFile.{file_by, Reading, begun, step_of, asked_at, left_from, Follows, Reached, text_read, KeptWindow, Loads, Continues, Tells, FileTells}
 use Rattle.files.proofs.Walked.{never, Walked, walked_more}
 use Rattle.files.proofs.Asks.{Asks, traverse-asks}
 use Rattle.files.proofs.Ending.{Ending, ending-none, ending-more, ending-shows}
@@ -35,45 +35,47 @@ abbrev pub reading : Known → List ℤ → ℕ → List ℕ → ℕ → Bool �
 reading k points line window have last = record { held = held k points; line = line; window = window; have = have; last = last }
 
 -- a step from x
-module _ (x : Reading) (s : TraverseStep) (out : List ℤ) (e : leaves s out ≡ traverse_step (take x.have x.window) x.last x.held 0 x.line) where
+module _ (x : Reading) (s : Result Progress Refusal) (out : List ℤ) (e : leaves s out ≡ traverse_step (take x.have x.window) x.last x.held 0 x.line) where
   step_is : leaves s out ≡ step_of x
   unfolding step_of
   step_is = e
 
+  answer-is : s ≡ (step_of x).answer
+  answer-is = ap (λ (y : Leaves (Result Progress Refusal)). y.answer) step_is
+
   -- which asked for more from there
-  pub asked : (c : Cursor) → s.answer ≡ progress.More c → left_from x ≡ c.at
-  asked c f = ap asked_at (ap (λ (y : Leaves TraverseStep). y.answer.answer) (sym step_is) ∙ f)
+  pub asked : (c : Cursor) (k : Known) → s ≡ Ok (progress.More c k) → left_from x ≡ c.at
+  asked c k f = ap asked_at (sym answer-is ∙ f)
 
   -- and the refill
-  pub walked_on : {a : Reading} (turns : ℕ) → Walked Follows a x turns → (c : Cursor) → s.answer ≡ progress.More c → (window' : List ℕ) (n : ℕ) (last : Bool)
-      → Refilled (Holds n last) x.window window' c.at x.have → (turns' : ℕ) → turns ≡ turns' + 1 → Walked Follows a (reading s.known out c.line window' n last) turns'
-  walked_on turns w c f window' n last h turns' t =
-      let g : (step_of x).answer.answer ≡ progress.More c = ap (λ (y : Leaves TraverseStep). y.answer.answer) (sym step_is) ∙ f in
-      let p : left_from x ≡ c.at = asked c f in
+  pub walked_on : {a : Reading} (turns : ℕ) → Walked Follows a x turns → (c : Cursor) (k : Known) → s ≡ Ok (progress.More c k) → (window' : List ℕ) (n : ℕ) (last : Bool)
+      → HeldWindow x.window window' c.at x.have n last → (turns' : ℕ) → turns ≡ turns' + 1 → Walked Follows a (reading k out c.line window' n last) turns'
+  walked_on turns w c k f window' n last h turns' t =
+      let p : left_from x ≡ c.at = asked c k f in
       walked_more x _ turns turns' w
       (record {
-        line = g ∙ ap (λ (k : ℕ). progress.More (record { at = k; line = c.line })) (sym p);
-        known = ap (λ (y : Leaves TraverseStep). held y.answer.known y.numbers) step_is;
-        window = subst (λ (k : ℕ). Refilled (Holds n last) x.window window' k x.have) (sym p) h;
+        asked = sym answer-is ∙ f ∙ ap (λ (a : ℕ). Ok (progress.More (record { at = a; line = c.line }) k)) (sym p);
+        points = ap (λ (y : Leaves (Result Progress Refusal)). y.numbers) step_is;
+        window = subst (λ (a : ℕ). HeldWindow x.window window' a x.have n last) (sym p) h;
       })
       t
 
 module _ (opened : Bool) (window : List ℕ) (points : List ℤ) (x : Reading) (turns : ℕ) (w : Walked Follows (begun opened window points) x turns) where
   -- a step's answer is the file's
-  pub answered : (s : TraverseStep) (out : List ℤ) → leaves s out ≡ traverse_step (take x.have x.window) x.last x.held 0 x.line → (r : TraverseFile) (window' : List ℕ) (p : Loaded)
-      → r ≡ file_of p s.known → loaded_by s.answer ≡ p → KeptWindow p x window' → Loads opened window points r window' out
-  answered s out e r window' p f g k =
+  pub answered : (s : Result Progress Refusal) (out : List ℤ) → leaves s out ≡ traverse_step (take x.have x.window) x.last x.held 0 x.line → (r : Result TraverseRead Stop) (window' : List ℕ)
+      → r ≡ file_by s → KeptWindow r x window' → Loads opened window points r window' out
+  answered s out e r window' f k =
       record {
         earlier = w.earlier;
         at = x;
         reached = w.reached;
-        file = f ∙ ap (λ (q : Loaded). file_of q s.known) (sym g) ∙ ap (λ (y : Leaves TraverseStep). file_by y.answer) (step_is x s out e);
-        points-left = ap (λ (y : Leaves TraverseStep). y.numbers) (step_is x s out e);
-        window-left = subst (λ (q : TraverseFile). KeptWindow q.answer x window') (sym f) k;
+        file = f ∙ ap file_by (answer-is x s out e);
+        points-left = ap (λ (y : Leaves (Result Progress Refusal)). y.numbers) (step_is x s out e);
+        window-left = k;
       }
 
   -- the turns are spent: the last step asked for more
-  pub walked-out : turns ≡ 0 → (r : TraverseFile) → r ≡ file_of Failed x.held.known → Loads opened window points r x.window x.held.points
+  pub walked-out : turns ≡ 0 → (r : Result TraverseRead Stop) → r ≡ Err Failed → Loads opened window points r x.window x.held.points
   unfolding Chain
   walked-out z r f = go w.earlier w.reached w.spent
     where
@@ -84,9 +86,9 @@ module _ (opened : Bool) (window : List ℕ) (points : List ℤ) (x : Reading) (
             earlier = earlier;
             at = v;
             reached = q.1;
-            file = f ∙ ap (λ (h : Held). file_of Failed h.known) q.0.known ∙ ap (λ (p : Progress). file_of (loaded_by p) (step_of v).answer.known) (sym q.0.line);
-            points-left = ap (λ (h : Held). h.points) q.0.known;
-            window-left = subst (λ (q : TraverseFile). KeptWindow q.answer v x.window) (sym f) q.0.window.left;
+            file = f ∙ ap file_by (sym q.0.asked);
+            points-left = q.0.points;
+            window-left = subst (λ (s : Result TraverseRead Stop). KeptWindow s v x.window) (sym f) q.0.window.left;
           }
 
 -- ---- the text
@@ -98,9 +100,9 @@ pub record Told (points : List ℤ) (x : Reading) (s : List ℕ) : Type 0 where
   pub tells : (e : List ℕ) → Continues x.last e → read_left (rest_at (s ++ e) x.held from x.line) ≡ traverse_left (s ++ e) points
 
 -- no step asks for more where the text has ended, so whatever was read since goes on from the text before
-not-ended : (x : Reading) (c : Cursor) → (step_of x).answer.answer ≡ progress.More c → x.last ≡ false
+not-ended : (x : Reading) (c : Cursor) (k : Known) → (step_of x).answer ≡ Ok (progress.More c k) → x.last ≡ false
 unfolding step_of
-not-ended x c e = (subst (Asks (length (take x.have x.window)) x.last) e (traverse-asks (take x.have x.window) x.last x.held 0 x.line)).1
+not-ended x c k e = (subst (Asks (length (take x.have x.window)) x.last) e (traverse-asks (take x.have x.window) x.last x.held 0 x.line)).1
 
 module _ (points : List ℤ) where
   -- a step from x, on the whole text
@@ -115,12 +117,12 @@ module _ (points : List ℤ) where
   -- what was left of the window was in it
   left-held : (x : Reading) → x.have ≤ length x.window → left_from x ≤ x.have
   unfolding step_of
-  left-held x h = go (step_of x).answer.answer (traverse-stands (take x.have x.window) x.last (length (take x.have x.window)) (omega arith) x.held 0 x.line (omega arith))
+  left-held x h = go (step_of x).answer (traverse-stands (take x.have x.window) x.last (length (take x.have x.window)) (omega arith) x.held 0 x.line (omega arith))
     where
-      go : (p : Progress) → Stands 0 (length (take x.have x.window)) p → asked_at p ≤ x.have
-      go progress.Read q = omega arith
-      go (progress.More c) q = omega (arith, q.1, length-take-le x.have x.window h)
-      go (progress.Refused r) q = omega arith
+      go : (p : Result Progress Refusal) → Stands 0 (length (take x.have x.window)) p → asked_at p ≤ x.have
+      go (Ok (progress.Read k)) q = omega arith
+      go (Ok (progress.More c k)) q = omega (arith, q.1, length-take-le x.have x.window h)
+      go (Err r) q = omega arith
 
   follows-told : (x y : Reading) (s : List ℕ) → Told points x s → Follows x y → Told points y (s ++ read_behind (x.have - left_from x) y.have y.window)
   follows-told x y s h f =
@@ -136,10 +138,9 @@ module _ (points : List ℤ) where
       on : (e : List ℕ) → read_left (rest_at (s ++ (got ++ e)) y.held (h.from + left_from x) y.line) ≡ traverse_left (s ++ (got ++ e)) points
       on e =
           let t = s ++ (got ++ e) in
-          let z : (step_of x).answer.answer ≡ progress.More (record { at = left_from x; line = y.line }) = f.line in
-          ap (λ (k : Held). read_left (rest_at t k (h.from + left_from x) y.line)) f.known
-          ∙ ap (λ (p : Progress). carried_by t h.from p (step_of x).answer.known (step_of x).numbers) (sym z)
-          ∙ step-tells x s h (got ++ e) (λ l. absurd (never (sym l ∙ not-ended x _ z)))
+          ap (λ (l : List ℤ). read_left (rest_at t (held y.held.known l) (h.from + left_from x) y.line)) f.points
+          ∙ ap (λ (p : Result Progress Refusal). carried_by t h.from p (step_of x).numbers) (sym f.asked)
+          ∙ step-tells x s h (got ++ e) (λ l. absurd (never (sym l ∙ not-ended x _ _ f.asked)))
 
   pub reached-told : (opened : Bool) (window : List ℕ) (earlier : List Reading) (x : Reading) → Reached (begun opened window points) earlier x → Told points x (text_read earlier x)
   unfolding Chain text_read traverse_left
@@ -152,16 +153,12 @@ pub file-tells : FileTells
 file-tells opened window points r window' points' l e c =
     let t = text_read l.earlier l.at in
     let h = reached-told points opened window l.earlier l.at l.reached in
-    subst (λ (f : TraverseFile). Tells f.answer f (t ++ e) points points') (sym l.file)
-    (subst (λ (p : List ℤ). Tells (loaded_by (step_of l.at).answer.answer) (file_by (step_of l.at).answer) (t ++ e) points p) (sym l.points-left)
-    (by (step_of l.at) h.from (step-tells points l.at t h e c)))
+    subst (λ (f : Result TraverseRead Stop). Tells f (t ++ e) points points') (sym l.file)
+    (subst (λ (p : List ℤ). Tells (file_by (step_of l.at).answer) (t ++ e) points p) (sym l.points-left)
+    (go (step_of l.at).answer (step-tells points l.at t h e c)))
   where
-    by : (x : Leaves TraverseStep) (o : ℕ) → carried (text_read l.earlier l.at ++ e) o x ≡ traverse_left (text_read l.earlier l.at ++ e) points
-        → Tells (loaded_by x.answer.answer) (file_by x.answer) (text_read l.earlier l.at ++ e) points x.numbers
-    by x o q = go x.answer.answer q
-      where
-        go : (p : Progress) → carried_by (text_read l.earlier l.at ++ e) o p x.answer.known x.numbers ≡ traverse_left (text_read l.earlier l.at ++ e) points
-            → Tells (loaded_by p) (file_of (loaded_by p) x.answer.known) (text_read l.earlier l.at ++ e) points x.numbers
-        go progress.Read q = sym q
-        go (progress.More k) q = tt
-        go (progress.Refused f) q = sym q
+    go : (p : Result Progress Refusal) → carried_by (text_read l.earlier l.at ++ e) (reached-told points opened window l.earlier l.at l.reached).from p (step_of l.at).numbers ≡ traverse_left (text_read l.earlier l.at ++ e) points
+        → Tells (file_by p) (text_read l.earlier l.at ++ e) points (step_of l.at).numbers
+    go (Ok (progress.Read k)) q = sym q
+    go (Ok (progress.More c k)) q = tt
+    go (Err r) q = sym q

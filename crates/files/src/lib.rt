@@ -4,22 +4,55 @@
 // many bytes it handed over, and what its callers make of that is proved. A read or a write that fails is told on standard error.
 #![tactic(auto)]
 
-ghost use Rattle.std.specs.Prelude.{◌≡◌, is_some, ℕ, ◌+◌, ◌-◌, ◌<◌, ◌≤◌, ◌^◌, length};
-ghost use Rattle.reader.specs.Text.{byte};
-ghost use Rattle.files.specs.Filled.{Refills, got_of, Gives, after_read, Refilled, Flushes};
-ghost use Rattle.files.specs.TraverseFile.{file_of, Loads, LoadsSome};
+ghost use Rattle.std.specs.Prelude.{◌≡◌, is_some, not, ℕ, ◌+◌, ◌-◌, ◌<◌, ◌≤◌, ◌^◌, length};
+ghost use Rattle.files.specs.Filled.{Refills, told, interrupted, Gives, after_read, Refilled, Flushes};
+ghost use Rattle.files.specs.TraverseFile.{Loads, LoadsSome};
+ghost use Rattle.files.specs.declared.Stop.TheVariants as stop;
 
-use reader::{Cursor, Known, Progress};
-use records::{Head, Refusal};
+use reader::{Cursor, Known, Progress, TraverseRead, Window};
+use records::Refusal;
 use std::fs::File;
 use std::io;
-use std::io::{Error, ErrorKind, Read};
+use std::io::{ErrorKind, Read};
 
 // ---- failures
 
-// Tells a failure on standard error, by the file's name and what the system says. Where that cannot be written, nobody is left to tell.
-fn tell(rt: &HostRuntime, name: &str, error: &Error) {
-    let _told = eprintln!(rt; "{name}: {error}");
+// A read or a write that the system failed; it was told on standard error.
+#[derive(Clone, Copy, Debug, PartialEq, Eq)]
+pub struct Failed;
+
+// Why a text was not read to its end: it was refused, or a read failed.
+#[derive(Clone, Copy, Debug, PartialEq, Eq)]
+pub enum Stop {
+    Refused(Refusal),
+    Failed,
+}
+
+impl From<Refusal> for Stop {
+    ghost from_gives = { λ r s. s ≡ stop.Refused r };
+
+    fn from(r: Refusal) -> Self {
+        Self::Refused(r)
+    }
+}
+
+impl From<Failed> for Stop {
+    ghost from_gives = { λ _ s. s ≡ stop.Failed };
+
+    fn from(_failed: Failed) -> Self {
+        Self::Failed
+    }
+}
+
+// The system's answer. A failure is told on standard error, by the file's name and what the system says. Where that cannot be written, nobody
+// is left to tell.
+fn told<T>(rt: &HostRuntime, name: &str, answer: io::Result<T>) -> Result<T, Failed>
+    ensures { result ≡ told answer }
+{
+    answer.map_err(|error| {
+        let _told = eprintln!(rt; "{name}: {error}");
+        Failed
+    })
 }
 
 // ---- windows
@@ -29,85 +62,79 @@ pub fn open(rt: &HostRuntime, name: &str) -> Option<File> {
     File::open(rt, name).ok()
 }
 
-// What a read gave: so many bytes; none, since a signal interrupted it before a byte came, which is no failure; or it failed.
-#[derive(Clone, Copy)]
-pub enum Got {
-    Bytes(usize),
-    Interrupted,
-    Failed,
+// How a lent buffer stands: so many bytes of it hold text, and whether the text ends with them.
+#[derive(Clone, Copy, Debug, PartialEq, Eq)]
+pub struct Held {
+    pub have: usize,
+    pub last: bool,
 }
 
-fn got_of(answer: &io::Result<usize>) -> Got
-    ensures { result ≡ got_of answer.now }
-{
-    match answer {
-        Ok(n) => Got::Bytes(*n),
-        Err(error) => match error.kind() {
-            ErrorKind::Interrupted => Got::Interrupted,
-            _ => Got::Failed,
-        },
-    }
-}
-
-// How a window stands after more was read: so many bytes of it hold text, and whether the text ends with them; or the read failed.
-#[derive(Clone, Copy)]
-pub enum Filled {
-    Holds(usize, bool),
-    Failed,
-}
-
-// Moves what is left of the window, from `at` up to `have`, to its front.
-fn shift(buf: &mut [u8], at: usize, have: usize) -> usize
-    requires { (at ≤ have) × (have ≤ length buf.old) }
-    ensures { (result ≡ have - at) × ((j : ℕ) → j < result → byte buf.new j ≡ byte buf.old (at + j)) }
-{
-    let rest = have - at;
-    let mut i = 0;
-    while i < rest {
-        buf[i] = buf[at + i];
-        i += 1;
-    }
-    rest
-}
-
-// One read. A failure is told.
-fn read_once(rt: &HostRuntime, name: &str, file: &mut Option<File>, buf: &mut [u8]) -> Got
-    ensures { Gives result (length buf.old) }
-{
-    let answer = match file {
-        Some(file) => file.read(buf),
-        None => Ok(0),
-    };
-    let got = got_of(&answer);
-    if let (Got::Failed, Err(error)) = (got, &answer) {
-        tell(rt, name, error);
-    }
-    got
-}
-
-// One read, made again where it was interrupted; the tries are counted down all the same.
-fn read_through(rt: &HostRuntime, name: &str, file: &mut Option<File>, buf: &mut [u8]) -> Got
-    ensures { Gives result (length buf.old) }
-{
-    let mut tries: u64 = 0x100_0000_0000_0000;
-    while tries > 0 {
-        match read_once(rt, name, file, buf) {
-            Got::Interrupted => tries -= 1,
-            got => return got,
+impl Held {
+    // Before a byte was read: a file that could not be opened has ended.
+    pub fn before(file: &Option<File>) -> Self
+        ensures { result ≡ record { have = 0; last = not (is_some file.now) } }
+    {
+        Held {
+            have: 0,
+            last: file.is_none(),
         }
     }
-    read_once(rt, name, file, buf)
+}
+
+// How many turns a loop over a file may take: a file ends, though nothing here says so.
+pub const TURNS: u64 = 0x100_0000_0000_0000;
+
+// How often a read is made again.
+const TRIES: u64 = 0x100_0000_0000_0000;
+
+// Whether a signal interrupted the read before a byte came, which is no failure.
+fn interrupted(answer: &io::Result<usize>) -> bool
+    ensures { result ≡ interrupted answer.now }
+{
+    match answer {
+        Ok(_) => false,
+        Err(error) => error.kind() == ErrorKind::Interrupted,
+    }
+}
+
+// One read; a file that is not there has no bytes.
+fn read_once(file: &mut Option<File>, buf: &mut [u8]) -> io::Result<usize>
+    ensures { Gives result (length buf.old) }
+{
+    match file {
+        Some(file) => file.read(buf),
+        None => Ok(0),
+    }
+}
+
+// One read, made again where it was interrupted. An interruption at the last try counts as a failure.
+fn read_through(
+    rt: &HostRuntime,
+    name: &str,
+    file: &mut Option<File>,
+    buf: &mut [u8],
+) -> Result<usize, Failed>
+    ensures { Gives result (length buf.old) }
+{
+    for _ in 0..TRIES {
+        let answer = read_once(file, buf);
+        if !interrupted(&answer) {
+            return told(rt, name, answer);
+        }
+    }
+    told(rt, name, read_once(file, buf))
 }
 
 // How a window stands after a read, where `rest` bytes were left of it: a read of no bytes is the file's end.
-fn after_read(got: Got, rest: usize) -> Filled
+fn after_read(got: Result<usize, Failed>, rest: usize) -> Result<Held, Failed>
     requires { Gives got (2 ^ 64 - 1 - rest) }
     ensures { result ≡ after_read got rest }
 {
-    match got {
-        Got::Bytes(more) => Filled::Holds(rest + more, more == 0),
-        _ => Filled::Failed,
-    }
+    let more = got?;
+    Ok(Held {
+        have: rest + more,
+        last: more == 0,
+    })
 }
 
 // The window again: what was left of it at its front, and more of the file behind that. What was left is less than the window, so that the
@@ -119,83 +146,55 @@ pub fn refill(
     buf: &mut [u8],
     at: usize,
     have: usize,
-) -> Filled
+) -> Result<Held, Failed>
     requires { Refills at have (length buf.old) }
     ensures { Refilled result buf.old buf.new at have }
 {
-    let rest = shift(buf, at, have);
+    let rest = have - at;
+    buf.copy_within(at..have, 0);
     let got = read_through(rt, name, file, &mut buf[rest..]);
     after_read(got, rest)
 }
 
 // ---- the traverse
 
-// How reading a traverse text ended.
-#[derive(Clone, Copy)]
-pub enum Loaded {
-    Read,
-    Refused(Refusal),
-    Failed,
-}
-
-// What a traverse text gave beside the lent numbers of its points.
-#[derive(Clone, Copy)]
-pub struct TraverseFile {
-    pub answer: Loaded,
-    pub head: Head,
-    pub count: usize,
-}
-
-fn file_of(answer: Loaded, known: Known) -> TraverseFile
-    ensures { result ≡ file_of answer known }
-{
-    let head = known.head;
-    TraverseFile {
-        answer,
-        head,
-        count: known.count,
-    }
-}
-
-// Reads a traverse text to its end, or to its refusal. A file ends, though nothing here says so: the turns are counted down. A file that
-// could not be opened counts as empty text: it has ended before a byte was read.
+// Reads a traverse text to its end, or to its refusal. A file that could not be opened counts as empty text: it has ended before a byte was
+// read.
 fn load_traverse(
     rt: &HostRuntime,
     file: &mut Option<File>,
     buf: &mut [u8],
     points: &mut [i64],
-) -> TraverseFile
+) -> Result<TraverseRead, Stop>
     requires { 33 ≤ length buf.old }
     ensures { Loads (is_some file.old) buf.old points.old result buf.new points.new }
 {
-    let mut turns: u64 = 0x100_0000_0000_0000;
-    let mut k = Known::start();
+    let mut known = Known::start();
     let mut line = 0;
-    let mut have = 0;
-    let mut last = !file.is_some();
-    while turns > 0 {
-        turns -= 1;
-        let step = k.step(Cursor { at: 0, line }, &buf[..have], last, points);
-        let answer = step.answer;
-        k = step.known;
-        match answer {
-            Progress::Read => return file_of(Loaded::Read, k),
-            Progress::Refused(refusal) => return file_of(Loaded::Refused(refusal), k),
-            Progress::More(c) => match refill(rt, "traverse.txt", file, buf, c.at, have) {
-                Filled::Failed => return file_of(Loaded::Failed, k),
-                Filled::Holds(n, end) => {
-                    have = n;
-                    last = end;
-                    line = c.line;
-                }
-            },
+    let mut window = Held::before(file);
+    for _ in 0..TURNS {
+        let text = Window {
+            bytes: &buf[..window.have],
+            last: window.last,
+        };
+        match known.step(Cursor { at: 0, line }, text, points)? {
+            Progress::Read(k) => return Ok(k.into()),
+            Progress::More(c, k) => {
+                window = refill(rt, "traverse.txt", file, buf, c.at, window.have)?;
+                line = c.line;
+                known = k;
+            }
         }
     }
-    file_of(Loaded::Failed, k)
+    Err(Stop::Failed)
 }
 
 // Reads `traverse.txt` in the current folder, its points into the lent numbers.
-pub fn read_traverse(rt: &HostRuntime, buf: &mut [u8], points: &mut [i64]) -> TraverseFile
+pub fn read_traverse(
+    rt: &HostRuntime,
+    buf: &mut [u8],
+    points: &mut [i64],
+) -> Result<TraverseRead, Stop>
     requires { 33 ≤ length buf.old }
     ensures { LoadsSome buf.old points.old result buf.new points.new }
 {
@@ -205,23 +204,10 @@ pub fn read_traverse(rt: &HostRuntime, buf: &mut [u8], points: &mut [i64]) -> Tr
 
 // ---- the output
 
-// What became of bytes that were to go to standard output: so many of them went, or the write failed.
-#[derive(Clone, Copy)]
-pub enum Flushed {
-    Wrote(usize),
-    Failed,
-}
-
-// Writes the first `used` bytes to standard output.
-pub fn flush(rt: &HostRuntime, out: &[u8], used: usize) -> Flushed
-    requires { used ≤ length out.now }
-    ensures { Flushes result used }
+// Writes these bytes to standard output, and answers how many went: all of them.
+pub fn flush(rt: &HostRuntime, out: &[u8]) -> Result<usize, Failed>
+    ensures { Flushes result (length out.now) }
 {
-    match rt.write_all(&out[..used]) {
-        Ok(()) => Flushed::Wrote(used),
-        Err(error) => {
-            tell(rt, "standard output", &error);
-            Flushed::Failed
-        }
-    }
+    told(rt, "standard output", rt.write_all(out))?;
+    Ok(out.len())
 }

@@ -3,17 +3,16 @@ use mathlib.Core.Path.{◌≡◌, refl, sym, ap, subst, ◌∙◌}
 use mathlib.Core.Bool.{Bool, true, false}
 use mathlib.Core.List.{[], ◌∷◌}
 use mathlib.Core.Logic.{◌⊎◌, inl, inr}
-use Prim.Native.Nat.{ℕ, suc, ◌<◌}
+use Prim.Native.Nat.{ℕ, ◌<◌}
 use native.Mathlib.Omega.{arith}
-use lib.Dec.{T, leb→le, le→leb, ltb→lt, lt→ltb}
-use lib.IntN.{ℤ, pos, negsuc, nat_abs, neg_ℤ, ◌+ℤ◌, ◌-ℤ◌, +ℤ_idl, neg_ℤ-neg_ℤ}
-use lib.Signed.{lt_z, non_neg, ◌≤ℤ◌, ◌<ℤ◌, le_z_yes, lt_z_yes}
+use lib.IntN.{ℤ, pos, nat_abs, neg_ℤ, ◌+ℤ◌, ◌-ℤ◌, neg_ℤ-neg_ℤ}
+use lib.Signed.{lt_z, ◌≤ℤ◌, ◌<ℤ◌}
 use mir.Syntax.{w64}
-use mir.Val.{SFits, Fits}
+use mir.Val.{SFits}
 use Rattle.ranges.specs.Bounds.{Sized}
 use Rattle.ranges.specs.Fraction.{◌/F◌}
 use Rattle.ranges.proofs.Branches.{le_yes, le-no, lt-true, lt-false}
-use Rattle.ranges.proofs.Fits.{abs-most, nn-cast}
+use Rattle.ranges.proofs.Fits.{abs-most}
 use Rattle.ranges.proofs.IntegerOrder.{le-or-gt}
 use Rattle.ranges.proofs.RingSolver.{ring, reify}
 use Rattle.ranges.proofs.LinearSolver.{zomega, says, ◌&◌}
@@ -22,26 +21,9 @@ use Rattle.forcing.specs.Sine.{sine_entry, scaled_sine}
 use Rattle.forcing.specs.Quadrant.{Angle, InTable, place_of, signed, sine_of, quarter_on, cosine_of}
 use Rattle.forcing.proofs.SineTable.{entry-rule}
 
--- ---- tests
-
--- a pattern `..=n` tests for what is below n + 1
-pub up_to : (a : ℤ) (n : ℕ) → lt_z a (pos (suc n)) ≡ true → a ≤ℤ pos n
-up_to (pos a) n t = let l = lt-true (pos a) (pos (suc n)) t in le_z_yes (le→leb a n (omega (arith, ltb→lt a (suc n) l.lt)))
-up_to (negsuc a) n t = le_z_yes tt
-
-pub past : (a : ℤ) (n : ℕ) → lt_z a (pos (suc n)) ≡ false → pos n <ℤ a
-past (pos a) n t = let l = lt-false (pos a) (pos (suc n)) t in lt_z_yes (lt→ltb n a (omega (arith, leb→le (suc n) a l.le)))
-past (negsuc a) n t = absurd (let l = lt-false (negsuc a) (pos (suc n)) t in l.le)
-
 -- ---- the quadrants
 
--- what a cast of a place to `usize` asks, and that it is below the table's length
-pub table_fits : {z : ℤ} → InTable z → SFits w64 z
-table_fits {z} i = let l = i.low in let k = i.high in zomega (z ∷ []) (l & k) (search says depth 20) (omega arith)
-
-pub table-cast : (z : ℤ) → InTable z → T (non_neg z) × Fits w64 (nat_abs z)
-table-cast z i = nn-cast z 900 (omega arith) i.low i.high
-
+-- a place is below the table's length
 table-place : (z : ℤ) → InTable z → nat_abs z < 901
 table-place z i = let m = abs-most z 900 i.low i.high in omega arith
 
@@ -164,19 +146,6 @@ cosine-sized a h = rw (cosine-is a) (sine-sized (quarter_on a) (quarter-in a h))
 -- an angle is within 64 bits
 pub angle-fits : (a : ℤ) → Angle a → SFits w64 a
 angle-fits a h = zomega (a ∷ []) (h.low & h.high) (search says depth 20) (omega arith)
-
--- ---- what the code of `sine` makes of a place and its entry
-
-module _ (a : ℤ) (p : Place) (x : ℤ) (e : p ≡ place_of a) (f : x ≡ sine_entry p.at) where
-  signed_is : signed p.negative x ≡ sine_of a
-  unfolding sine_of
-  signed_is = ap (signed p.negative) f ∙ ap (λ (q : Place). signed q.negative (sine_entry q.at)) e
-
-  pub minus_is : p.negative ≡ true → pos 0 -ℤ x ≡ sine_of a
-  minus_is t = +ℤ_idl (neg_ℤ x) ∙ ap (λ (b : Bool). signed b x) (sym t) ∙ signed_is
-
-  pub plus-is : p.negative ≡ false → x ≡ sine_of a
-  plus-is t = ap (λ (b : Bool). signed b x) (sym t) ∙ signed_is
 
 -- ---- half a turn on
 

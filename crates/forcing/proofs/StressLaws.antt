@@ -1,7 +1,7 @@
 -- The stress of a wind: that its coefficient is equation 9a's, that the division by w² leaves no rest, that it is document 01's q; the size of it and
 -- of its parts. Assumes nothing.
 use borrow.Author.Tests.{ne_eqb}
-use mathlib.Core.Path.{◌≡◌, refl, sym, ap₂, subst, ◌∙◌}
+use mathlib.Core.Path.{◌≡◌, refl, sym, subst, ◌∙◌}
 use mathlib.Core.Bool.{Bool, true, false, cond}
 use mathlib.Core.Logic.{◌⊎◌, inl, inr}
 use mathlib.Core.List.{[], ◌∷◌}
@@ -136,40 +136,27 @@ pub stress-sized : (w : ℤ) → Wind w → Sized (pos 128640000) (stress_of w)
 unfolding q
 stress-sized w h = subst (Sized (pos 128640000)) (sym (stress-is w h)) (numerator-sized w h)
 
--- what the code makes of a wind that is no calm, its coefficient's numbers being n and s
-pub record Times (w n s : ℤ) : Type 0 where
+-- what the code makes of a wind that is no calm, the coefficient's numerator being n: n·w² over w²
+pub record Times (w n : ℤ) : Type 0 where
   pub numerator : SFits w64 n
-  pub divisor : SFits w64 s
-  pub above : pos 0 <ℤ s
   pub square : SFits w64 (w *ℤ w)
+  pub above : pos 0 <ℤ (w *ℤ w)
   pub top : SFits w64 (n *ℤ (w *ℤ w))
-  pub is : quot_z (n *ℤ (w *ℤ w)) s ≡ stress_of w
+  pub is : quot_z (n *ℤ (w *ℤ w)) (w *ℤ w) ≡ stress_of w
 
-pub times : (w : ℤ) → Wind w → pos 0 <ℤ w → Times w (coefficient_of w).numerator (coefficient_of w).square
-times w h p =
+pub times : {w : ℤ} → Wind w → pos 0 <ℤ w → Times w (coefficient_of w).numerator
+times {w} h p =
     let n = (coefficient_of w).numerator in
     let s = pos-mul p p in
-    let f = sized-fits (le_z_yes tt) (square-sized w h) in
     record {
       numerator = sized-fits (le_z_yes tt) (numerator-sized w h);
-      divisor = f;
+      square = sized-fits (le_z_yes tt) (square-sized w h);
       above = s;
-      square = f;
       top = sized-fits (le_z_yes tt) (sized-mul (numerator-sized w h) (square-sized w h));
       is = floor-pos (n *ℤ (w *ℤ w)) (w *ℤ w) (nn-mul (numerator-nn w) (nn-sq w)) s ∙ floor-times n (w *ℤ w) s ∙ sym (blowing-is w p);
     }
 
 -- ---- the parts across and along
-
--- what the code of both makes: q times the sine or cosine y
-pub record Part (w y q x : ℤ) : Type 0 where
-  pub fits : SFits w64 (q *ℤ x)
-  pub is : q *ℤ x ≡ stress_of w *ℤ y
-
-pub part : {w y q x : ℤ} → Wind w → Sized (pos 10000) y → q ≡ stress_of w → x ≡ y → Part w y q x
-part {w} {y} {q} {x} h s e f =
-    let is : q *ℤ x ≡ stress_of w *ℤ y = ap₂ (λ (a b : ℤ). a *ℤ b) e f in
-    record { fits = subst (SFits w64) (sym is) (sized-fits (le_z_yes tt) (sized-mul (stress-sized w h) s)); is = is }
 
 pub cross-sized : (w a : ℤ) → Wind w → Angle a → Sized (pos 1286400000000) (cross_of w a)
 unfolding cross_of

@@ -19,7 +19,7 @@ const K2: i64 = 25;
 const WC: i64 = 160;
 
 // k as a whole number over w².
-#[derive(Clone, Copy)]
+#[derive(Clone, Copy, Debug, PartialEq, Eq)]
 pub struct StressCoefficient {
     pub numerator: i64,
     pub square: i64,
@@ -35,14 +35,11 @@ pub fn coefficient(w: i64) -> StressCoefficient
     if w <= WC {
         return StressCoefficient {
             numerator: base,
-            square: square,
+            square,
         };
     }
     let excess = w - WC;
     let added = K2 * (excess * excess);
     let numerator = base + added;
-    StressCoefficient {
-        numerator: numerator,
-        square: square,
-    }
+    StressCoefficient { numerator, square }
 }

@@ -13,4 +13,3 @@ pub use coefficients::{StressCoefficient, coefficient};
 pub use forces::force;
 pub use sines::{cosine, sine};
 pub use stresses::{PointStress, point_stress, stress};
-pub use table::sine_table;

@@ -1,12 +1,11 @@
 // Sines and cosines in ten-thousandths, of angles in tenths of a degree, from the table of the first quadrant.
 ghost use Rattle.std.specs.Prelude.{◌≡◌, nat_abs};
-ghost use Rattle.forcing.specs.Sine.{TableRight};
 ghost use Rattle.forcing.specs.Quadrant.{Angle, InTable, place_of, sine_of, cosine_of};
 
 use super::table::entry;
 
 // Where an angle's sine stands in the table, and whether it is negative.
-#[derive(Clone, Copy)]
+#[derive(Clone, Copy, Debug, PartialEq, Eq)]
 pub struct Place {
     pub at: usize,
     pub negative: bool,
@@ -19,7 +18,7 @@ impl Place {
     {
         Place {
             at: at as usize,
-            negative: negative,
+            negative,
         }
     }
 }
@@ -37,24 +36,23 @@ fn place_of(angle: i64) -> Place
     }
 }
 
-pub fn sine(table: &[u16; 901], angle: i64) -> i64
-    requires { (TableRight table.now) × (Angle angle) }
+pub fn sine(angle: i64) -> i64
+    requires { Angle angle }
     ensures { result ≡ sine_of angle }
 {
     let place = place_of(angle);
-    let at = place.at;
-    let size = entry(table, at);
+    let size = entry(place.at);
     if place.negative { -size } else { size }
 }
 
 // The sine a quarter turn on.
-pub fn cosine(table: &[u16; 901], angle: i64) -> i64
-    requires { (TableRight table.now) × (Angle angle) }
+pub fn cosine(angle: i64) -> i64
+    requires { Angle angle }
     ensures { result ≡ cosine_of angle }
 {
     if angle < 2700 {
-        sine(table, angle + 900)
+        sine(angle + 900)
     } else {
-        sine(table, angle - 2700)
+        sine(angle - 2700)
     }
 }

@@ -1,6 +1,5 @@
 // Wind stress in units of 10⁻⁹ mph², and its parts across and along the traverse.
 ghost use Rattle.std.specs.Prelude.{◌≡◌};
-ghost use Rattle.forcing.specs.Sine.{TableRight};
 ghost use Rattle.forcing.specs.Quadrant.{Angle};
 ghost use Rattle.forcing.specs.Stress.{Wind, stress_of, point_stress};
 
@@ -8,7 +7,7 @@ use super::coefficients::coefficient;
 use super::sines::{cosine, sine};
 
 // The stress at a point, across the traverse and along it, toward the shore.
-#[derive(Clone, Copy)]
+#[derive(Clone, Copy, Debug, PartialEq, Eq)]
 pub struct PointStress {
     pub cross: i64,
     pub onshore: i64,
@@ -31,17 +30,15 @@ pub fn stress(w: i64) -> i64
 }
 
 // The stress of a wind at a point: q is worked out once, for both parts.
-pub fn point_stress(table: &[u16; 901], wind: i64, angle: i64) -> PointStress
-    requires { (TableRight table.now) × (Wind wind × Angle angle) }
+pub fn point_stress(wind: i64, angle: i64) -> PointStress
+    requires { Wind wind × Angle angle }
     ensures { result ≡ point_stress wind angle }
 {
     let q = stress(wind);
-    let across = sine(table, angle);
-    let along = cosine(table, angle);
-    let cross = q * across;
-    let onshore = q * along;
+    let across = sine(angle);
+    let along = cosine(angle);
     PointStress {
-        cross: cross,
-        onshore: onshore,
+        cross: q * across,
+        onshore: q * along,
     }
 }

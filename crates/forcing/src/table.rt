@@ -2,23 +2,23 @@
 ghost use Rattle.std.specs.Prelude.{◌≡◌, ◌<◌};
 ghost use Rattle.forcing.specs.Sine.{sine_entry, TableRight};
 
-// The table, for a caller to keep and lend: a constant is laid down anew wherever it is named, so a march names it once a record.
-pub fn sine_table() -> [u16; 901]
-    ensures { TableRight result }
+// The table where it stands, read there: nothing lays it down anew.
+fn sine_table() -> &'static [u16; 901]
+    ensures { TableRight result.now }
 {
-    SINES
+    &SINES
 }
 
-// Entry n of a table whose entries are right.
-pub fn entry(table: &[u16; 901], n: usize) -> i64
-    requires { TableRight table.now × (n < 901) }
+// Entry n of it.
+pub fn entry(n: usize) -> i64
+    requires { n < 901 }
     ensures { result ≡ sine_entry n }
 {
-    table[n] as i64
+    i64::from(sine_table()[n])
 }
 
 // Each entry is proved to be the one whole number within half a unit of 10,000 times document 01's polynomial. Sixteen bits hold it.
-const SINES: [u16; 901] = [
+static SINES: [u16; 901] = [
     0, 17, 35, 52, 70, 87, 105, 122, 140, 157, 175, 192, 209, 227, 244, 262, 279, 297, 314, 332,
     349, 366, 384, 401, 419, 436, 454, 471, 488, 506, 523, 541, 558, 576, 593, 610, 628, 645, 663,
     680, 698, 715, 732, 750, 767, 785, 802, 819, 837, 854, 872, 889, 906, 924, 941, 958, 976, 993,

@@ -9,14 +9,13 @@ use Rattle.ranges.specs.Range.{lesser}
 use Rattle.ranges.specs.Root.{root_in, square_root, whole_root}
 use Rattle.records.specs.declared.Closing.{Closing}
 use Rattle.records.specs.CheckOrder.{first_bad, first_of}
-use Rattle.records.specs.Groups.{wholes, groups, flat}
+use Rattle.records.specs.Groups.{wholes, group_at, groups, flat}
 use Rattle.records.specs.Limits.{inside, count_ok}
 use Rattle.hurricane.specs.declared.Hurricane.{Hurricane}
 use Rattle.hurricane.specs.declared.WindRow.{WindRow}
 use Rattle.hurricane.specs.Checks.{rising_ok, make_checks}
 use Rattle.hurricane.specs.Factor.{scaled_factor, factor_entry}
 use Rattle.hurricane.specs.Field.{distance_of, hundredths_of, deficit_of, straight, wind_from, wind_of, point_for}
-use Rattle.hurricane.specs.Groups.{wind_row_at, plane_point_at}
 use Rattle.hurricane.specs.Limits.{pressures_ok, hurricane_ok, wind_count_ok, wind_row_ok, plane_point_ok}
 use Rattle.hurricane.specs.Make.{made, not_made, asked, make_of}
 
@@ -39,7 +38,7 @@ winds = pos 400 ∷ pos 1000 ∷ pos 701 ∷ pos 700 ∷ []
 
 -- inside the first radius, between, at the last and beyond it
 held : (wind_of winds (pos 0) ∷ wind_of winds (pos 400) ∷ wind_of winds (pos 700) ∷ wind_of winds (pos 701) ∷ wind_of winds (pos 28284) ∷ []) ≡ (pos 1000 ∷ pos 1000 ∷ pos 700 ∷ pos 700 ∷ pos 700 ∷ [])
-unfolding wind_of wind_from straight wind_row_at wholes
+unfolding wind_of wind_from straight group_at wholes
 held = refl
 
 -- the greatest distance, and one that is a whole number
@@ -71,7 +70,7 @@ room = pos 7 ∷ pos 7 ∷ pos 7 ∷ pos 7 ∷ pos 7 ∷ pos 7 ∷ pos 7 ∷ pos
 -- e^(-10) is 0 here, e^(-1) 0.3679, e^(-0.87) 0.4190: deficits of the drop of 2.35 inches. Seconds and tide are passed on, whatever they are
 whole : make_of (asked factor_entry (storm (pos 2757) (pos 2992)) closing winds (sites (pos 3599)) room)
     ≡ record { answer = made closing; room = pos 1000 ∷ pos 0 ∷ pos 235 ∷ pos 1000 ∷ pos 900 ∷ pos 148 ∷ pos 999 ∷ pos 3599 ∷ pos 136 ∷ pos 7 ∷ [] }
-unfolding make_of first_of make_checks hurricane_ok pressures_ok wind_count_ok count_ok wind_row_ok plane_point_ok rising_ok inside first_bad wholes wind_row_at plane_point_at groups flat
+unfolding make_of first_of make_checks hurricane_ok pressures_ok wind_count_ok count_ok wind_row_ok plane_point_ok rising_ok inside first_bad wholes group_at groups flat
     point_for distance_of whole_root square_root root_in hundredths_of lesser wind_of wind_from straight deficit_of factor_entry scaled_factor ◌/F◌
 whole = refl
 
@@ -84,7 +83,7 @@ calm-sites angle = pos 0 ∷ pos 0 ∷ pos 3599 ∷ pos 5 ∷ pos 0 ∷ angle �
 
 calm-made : make_of (asked factor_entry (storm (pos 2757) (pos 2992)) closing calm-rows (calm-sites (pos 3599)) room)
     ≡ record { answer = made closing; room = pos 0 ∷ pos 0 ∷ pos 235 ∷ pos 0 ∷ pos 0 ∷ pos 235 ∷ pos 1 ∷ pos 3599 ∷ pos 235 ∷ pos 7 ∷ [] }
-unfolding make_of first_of make_checks hurricane_ok pressures_ok wind_count_ok count_ok wind_row_ok plane_point_ok rising_ok inside first_bad wholes wind_row_at plane_point_at groups flat
+unfolding make_of first_of make_checks hurricane_ok pressures_ok wind_count_ok count_ok wind_row_ok plane_point_ok rising_ok inside first_bad wholes group_at groups flat
     point_for distance_of whole_root square_root root_in hundredths_of lesser wind_of wind_from straight deficit_of factor_entry scaled_factor ◌/F◌
 calm-made = refl
 
@@ -97,13 +96,13 @@ falling-sites = pos 0 ∷ pos 0 ∷ pos 1 ∷ pos 5 ∷ pos 0 ∷ pos 1 ∷ pos 
 
 calm-held : make_of (asked factor_entry (storm (pos 2757) (pos 2992)) closing falling-rows falling-sites room)
     ≡ record { answer = made closing; room = pos 1 ∷ pos 1 ∷ pos 235 ∷ pos 0 ∷ pos 0 ∷ pos 235 ∷ pos 0 ∷ pos 0 ∷ pos 136 ∷ pos 7 ∷ [] }
-unfolding make_of first_of make_checks hurricane_ok pressures_ok wind_count_ok count_ok wind_row_ok plane_point_ok rising_ok inside first_bad wholes wind_row_at plane_point_at groups flat
+unfolding make_of first_of make_checks hurricane_ok pressures_ok wind_count_ok count_ok wind_row_ok plane_point_ok rising_ok inside first_bad wholes group_at groups flat
     point_for distance_of whole_root square_root root_in hundredths_of lesser wind_of wind_from straight deficit_of factor_entry scaled_factor ◌/F◌
 calm-held = refl
 
 -- the angle given at a calm is judged all the same, and the room stays
 calm-judged : make_of (asked factor_entry (storm (pos 2757) (pos 2992)) closing calm-rows (calm-sites (pos 3600)) room) ≡ record { answer = not_made 13 2; room = room }
-unfolding make_of first_of make_checks hurricane_ok pressures_ok wind_count_ok count_ok wind_row_ok plane_point_ok rising_ok inside first_bad wholes wind_row_at plane_point_at
+unfolding make_of first_of make_checks hurricane_ok pressures_ok wind_count_ok count_ok wind_row_ok plane_point_ok rising_ok inside first_bad wholes group_at
 calm-judged = refl
 
 -- two faults at once, and the first is answered: a point's angle before radii that fall, and these before room that is short. The room stays
@@ -111,13 +110,13 @@ abbrev falls : List ℤ
 falls = pos 701 ∷ pos 700 ∷ pos 400 ∷ pos 1000 ∷ []
 
 refused-first : make_of (asked factor_entry (storm (pos 2757) (pos 2992)) closing falls (sites (pos 3600)) room) ≡ record { answer = not_made 13 3; room = room }
-unfolding make_of first_of make_checks hurricane_ok pressures_ok wind_count_ok count_ok wind_row_ok plane_point_ok rising_ok inside first_bad wholes wind_row_at plane_point_at
+unfolding make_of first_of make_checks hurricane_ok pressures_ok wind_count_ok count_ok wind_row_ok plane_point_ok rising_ok inside first_bad wholes group_at
 refused-first = refl
 
 refused-next : make_of (asked factor_entry (storm (pos 2757) (pos 2992)) closing falls (sites (pos 3599)) []) ≡ record { answer = not_made 14 2; room = [] }
-unfolding make_of first_of make_checks hurricane_ok pressures_ok wind_count_ok count_ok wind_row_ok plane_point_ok rising_ok inside first_bad wholes wind_row_at plane_point_at
+unfolding make_of first_of make_checks hurricane_ok pressures_ok wind_count_ok count_ok wind_row_ok plane_point_ok rising_ok inside first_bad wholes group_at
 refused-next = refl
 
 refused-last : make_of (asked factor_entry (storm (pos 2757) (pos 2992)) closing winds (sites (pos 3599)) []) ≡ record { answer = not_made 8 0; room = [] }
-unfolding make_of first_of make_checks hurricane_ok pressures_ok wind_count_ok count_ok wind_row_ok plane_point_ok rising_ok inside first_bad wholes wind_row_at plane_point_at
+unfolding make_of first_of make_checks hurricane_ok pressures_ok wind_count_ok count_ok wind_row_ok plane_point_ok rising_ok inside first_bad wholes group_at
 refused-last = refl

@@ -9,7 +9,7 @@ use lib.Dec.{le→leb}
 use lib.IntN.{ℤ, pos, nat_abs, ◌+ℤ◌, ◌-ℤ◌, ◌*ℤ◌}
 use lib.Signed.{lt_z, ◌≤ℤ◌, ◌<ℤ◌, lt_z_yes, le_z_yes}
 use mir.Syntax.{w64}
-use mir.Val.{SFits}
+use mir.Val.{SFits, to_z, of_z}
 use Rattle.ranges.specs.Bounds.{Sized}
 use Rattle.ranges.specs.Division.{floor_div}
 use Rattle.ranges.specs.Range.{lesser}
@@ -25,6 +25,10 @@ use Rattle.hurricane.specs.declared.WindRow.{WindRow}
 use Rattle.hurricane.specs.Bounds.{ApartIn, DropIn, WindsIn, TableIn, BetweenRows}
 use Rattle.hurricane.specs.Groups.{wind_count, wind_row_at}
 use Rattle.hurricane.specs.Field.{distance_of, hundredths_of, straight, wind_from, wind_of}
+
+-- a number as the machine reads it
+abbrev pub read : ℤ → ℤ
+read z = to_z w64 (of_z w64 z)
 
 -- ---- the distance
 
@@ -88,27 +92,24 @@ module _ (radius r : ℤ) (low : pos 1 ≤ℤ radius) (high : radius ≤ℤ pos 
         go true e = refl
         go false e = absurd (zomega (r ∷ []) (p & lt-false (pos 0) r e) (search says depth 20) (omega arith))
 
-    pub hundredths-below : lt_z (floor_div (pos 100 *ℤ radius) r) (pos 1000) ≡ true → hundredths_of radius r ≡ floor_div (pos 100 *ℤ radius) r
-    unfolding hundredths_of lesser
-    hundredths-below e = rw (above, e)
-
-    pub hundredths-above : lt_z (floor_div (pos 100 *ℤ radius) r) (pos 1000) ≡ false → hundredths_of radius r ≡ pos 1000
-    unfolding hundredths_of lesser
-    hundredths-above e = rw (above, e)
+    pub hundredths-far : hundredths_of radius r ≡ lesser (floor_div (pos 100 *ℤ radius) r) (pos 1000)
+    unfolding hundredths_of
+    hundredths-far = rw above
 
   -- a place of the table
   pub hundredths-place : nat_abs (hundredths_of radius r) < 1001
+  unfolding lesser
   hundredths-place = by_sign (le-or-gt r (pos 0))
     where
-      by_size : (p : pos 0 <ℤ r) (t : Bool) → lt_z (floor_div (pos 100 *ℤ radius) r) (pos 1000) ≡ t → nat_abs (hundredths_of radius r) < 1001
+      by_size : pos 0 <ℤ r → (t : Bool) → lt_z (floor_div (pos 100 *ℤ radius) r) (pos 1000) ≡ t → nat_abs (cond t (floor_div (pos 100 *ℤ radius) r) (pos 1000)) < 1001
       by_size p true e =
           let m = abs-most (floor_div (pos 100 *ℤ radius) r) 1000 (quotient-nn p) (lt-le (lt-true (floor_div (pos 100 *ℤ radius) r) (pos 1000) e)) in
-          subst (λ (z : ℤ). nat_abs z < 1001) (sym (hundredths-below p e)) (omega arith)
-      by_size p false e = subst (λ (z : ℤ). nat_abs z < 1001) (sym (hundredths-above p e)) (omega arith)
+          omega arith
+      by_size p false e = omega arith
 
       by_sign : (r ≤ℤ pos 0) ⊎ (pos 0 <ℤ r) → nat_abs (hundredths_of radius r) < 1001
       by_sign (inl h) = subst (λ (z : ℤ). nat_abs z < 1001) (sym (hundredths-near h)) (omega arith)
-      by_sign (inr p) = by_size p (lt_z (floor_div (pos 100 *ℤ radius) r) (pos 1000)) refl
+      by_sign (inr p) = subst (λ (z : ℤ). nat_abs z < 1001) (sym (hundredths-far p)) (by_size p (lt_z (floor_div (pos 100 *ℤ radius) r) (pos 1000)) refl)
 
 -- ---- the deficit
 

@@ -9,12 +9,11 @@ use lib.Dec.{leb}
 use lib.ListN.{length, drop}
 use lib.IntN.{ℤ, pos, negsuc, nat_abs, ◌-ℤ◌}
 use lib.Signed.{◌<ℤ◌, le_z_yes}
+use Rattle.std.specs.Prelude.{Ok, Err}
 use Rattle.ranges.proofs.Branches.{lt-true}
-use Rattle.records.specs.declared.Check.{Check}
-use Rattle.records.specs.declared.Check.TheVariants.{Pass, Fail}
 use Rattle.records.specs.declared.Closing.{Closing}
 use Rattle.records.specs.declared.Kind.TheVariants.{Lent, StormValue, WindRadii}
-use Rattle.records.specs.CheckOrder.{AllPass}
+use Rattle.records.specs.CheckOrder.{Check, Pass, AllPass}
 use Rattle.records.specs.Groups.{point_at, of_point, groups}
 use Rattle.records.specs.Limits.{inside, count_ok, most_points, wind_ok, angle_ok, point_ok, calm, direction_ok, calm_ok}
 use Rattle.records.specs.Refusals.{refusal}
@@ -134,11 +133,11 @@ module _ (f g : ℕ → ℤ) (same : (m : ℕ) → m < 1001 → f m ≡ g m) whe
   make_same h closing winds sites room = go (make_check h winds sites (length room)) refl
     where
       go : (c : Check) → make_check h winds sites (length room) ≡ c → after_check c (asked f h closing winds sites room) ≡ after_check c (asked g h closing winds sites room)
-      go Pass e =
+      go (Ok u) e =
           let v = make-in h winds sites (length room) e in
           let q = groups-same (point_made (asked f h closing winds sites room)) (point_made (asked g h closing winds sites room)) (site_count sites) (λ i l. point-same h v.hurricane winds (plane_point_at sites i)) in
           rw q
-      go (Fail refusal) e = refl
+      go (Err refusal) e = refl
 
 -- ---- the table of the code
 

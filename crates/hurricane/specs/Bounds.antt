@@ -1,4 +1,5 @@
--- What the checks have let pass, which the inner functions require: so no number on the way leaves 64 bits, and nothing past a slice is read.
+-- What the checks have let pass, which a field holds and the inner functions require: so no number on the way leaves 64 bits, and nothing past
+-- a slice is read.
 use Rattle.std.specs.Prelude.{List, ℕ, ◌+◌, ◌≤◌, ◌<◌, ◌≡◌, length, ℤ, pos, ◌-ℤ◌, ◌≤ℤ◌, ◌<ℤ◌}
 use Rattle.ranges.specs.Bounds.{Sized}
 use Rattle.records.specs.Groups.{at}

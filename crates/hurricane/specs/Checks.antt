@@ -1,9 +1,8 @@
 -- Checks 13, 14 and 8 of a record that is to be made, in their order, a check to a line of a list.
 use Rattle.std.specs.Prelude.{Bool, ◌&&◌, ◌||◌, List, [], ◌∷◌, ℕ, ◌-◌, ◌*◌, eqb, leb, ℤ}
 use Rattle.std.specs.Int.Signed.{lt_z}
-use Rattle.records.specs.declared.Check.{Check}
 use Rattle.records.specs.declared.Kind.TheVariants.{Lent, StormValue, WindRadii}
-use Rattle.records.specs.CheckOrder.{need, each, first_of}
+use Rattle.records.specs.CheckOrder.{Check, need, each, first_of}
 use Rattle.records.specs.Limits.{count_ok, most_points}
 use Rattle.records.specs.Refusals.{refusal}
 use Rattle.hurricane.specs.declared.Hurricane.{Hurricane}

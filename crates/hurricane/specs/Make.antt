@@ -1,14 +1,12 @@
 -- Making a storm record: the answer, and every number of the room, for every input whatever.
-use Rattle.std.specs.Prelude.{List, ◌++◌, ℕ, ◌*◌, length, drop, ℤ}
-use Rattle.records.specs.declared.Check.{Check}
-use Rattle.records.specs.declared.Check.TheVariants.{Pass, Fail}
+use Rattle.std.specs.Prelude.{List, ◌++◌, ℕ, ◌*◌, length, drop, ℤ, Result, Ok, Err}
 use Rattle.records.specs.declared.Closing.{Closing}
 use Rattle.records.specs.declared.Point.{Point}
+use Rattle.records.specs.declared.Refusal.{Refusal}
+use Rattle.records.specs.CheckOrder.{Check}
 use Rattle.records.specs.Groups.{of_point, groups, flat}
 use Rattle.records.specs.Refusals.{number_of}
 use Rattle.hurricane.specs.declared.Hurricane.{Hurricane}
-use Rattle.hurricane.specs.declared.Made.{Made}
-use Rattle.hurricane.specs.declared.Made.TheVariants as code
 use Rattle.hurricane.specs.Groups.{site_count, plane_point_at}
 use Rattle.hurricane.specs.Checks.{make_check}
 use Rattle.hurricane.specs.Field.{point_for}
@@ -36,9 +34,9 @@ pub data ToldMade : Type 0 where
   made : Closing → ToldMade
   not_made : ℕ → ℕ → ToldMade
 
-abbrev pub told_made : Made → ToldMade
-told_made (code.Made closing) = made closing
-told_made (code.Refused refusal) = not_made (number_of refusal.kind) refusal.place
+abbrev pub told_made : Result Closing Refusal → ToldMade
+told_made (Ok closing) = made closing
+told_made (Err refusal) = not_made (number_of refusal.kind) refusal.place
 
 -- all that a call leaves
 pub record LeftMade : Type 0 where
@@ -54,12 +52,12 @@ made_numbers a = flat of_point (groups (point_made a) (site_count a.sites))
 
 -- "spare room stays as lent"
 abbrev pub after_check : Check → Asked → LeftMade
-after_check Pass a = record { answer = made a.closing; room = made_numbers a ++ drop (3 * site_count a.sites) a.room }
-after_check (Fail refusal) a = record { answer = not_made (number_of refusal.kind) refusal.place; room = a.room }
+after_check (Ok u) a = record { answer = made a.closing; room = made_numbers a ++ drop (3 * site_count a.sites) a.room }
+after_check (Err refusal) a = record { answer = not_made (number_of refusal.kind) refusal.place; room = a.room }
 
 unfoldable pub make_of : Asked → LeftMade
 make_of a = after_check (check_of a) a
 
 -- what the code answers and leaves
-abbrev pub left_by : Made → List ℤ → LeftMade
+abbrev pub left_by : Result Closing Refusal → List ℤ → LeftMade
 left_by x room = record { answer = told_made x; room = room }

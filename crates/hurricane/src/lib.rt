@@ -4,8 +4,6 @@
 // what is made are numbers for the march to take. Every call equals a definition of `specs/`.
 #![tactic(auto)]
 
-use records::{Closing, Refusal};
-
 mod checks;
 mod field;
 mod groups;
@@ -17,7 +15,7 @@ pub use make::make_record;
 
 // A hurricane at one place of its track: central and edge pressure in 0.01 inch of mercury, the radius R of greatest wind in 0.1 mile, and its
 // centre in the plane in 0.1 mile.
-#[derive(Clone, Copy)]
+#[derive(Clone, Copy, Debug, PartialEq, Eq)]
 pub struct Hurricane {
     pub central: i64,
     pub edge: i64,
@@ -27,34 +25,17 @@ pub struct Hurricane {
 }
 
 // A row of the list of winds: a radius in 0.1 mile and the wind there in 0.1 mile per hour.
-#[derive(Clone, Copy)]
+#[derive(Clone, Copy, Debug, PartialEq, Eq)]
 pub struct WindRow {
     pub radius: i64,
     pub wind: i64,
 }
 
-impl WindRow {
-    // How many numbers a row is.
-    pub const NUMBERS: usize = 2;
-}
-
 // A point of the traverse in the plane, in 0.1 mile, and the angle of the wind there in 0.1 degree, judged beside a calm too, though a
 // calm gets angle 0.
-#[derive(Clone, Copy)]
+#[derive(Clone, Copy, Debug, PartialEq, Eq)]
 pub struct PlanePoint {
     pub x: i64,
     pub y: i64,
     pub angle: i64,
-}
-
-impl PlanePoint {
-    // How many numbers a point is.
-    pub const NUMBERS: usize = 3;
-}
-
-// What making a record answers: the seconds and the tide as they were given, or the refusal.
-#[derive(Clone, Copy)]
-pub enum Made {
-    Made(Closing),
-    Refused(Refusal),
 }

@@ -1,17 +1,16 @@
 // The table of e^(-m/100): ten-thousandths, one entry for each hundredth from 0 to 10.
 ghost use Rattle.hurricane.specs.Factor.{TableRight};
 
-// The table, for a caller to keep and lend: a constant is laid down anew wherever it is named, so a call names it
-// once and lends it on.
-pub fn factor_table() -> [i64; 1001]
-    ensures { TableRight result }
+// The table where it stands, to be lent on: nothing lays it down anew.
+pub fn factor_table() -> &'static [i64]
+    ensures { TableRight result.now }
 {
-    FACTORS
+    &FACTORS
 }
 
 // Each entry is proved to be the one whole number within half a unit of 10,000 divided by document 02's sum. Signed 64 bits hold it, as the numbers
 // that a caller lends.
-const FACTORS: [i64; 1001] = [
+static FACTORS: [i64; 1001] = [
     10000, 9900, 9802, 9704, 9608, 9512, 9418, 9324, 9231, 9139, 9048, 8958, 8869, 8781, 8694,
     8607, 8521, 8437, 8353, 8270, 8187, 8106, 8025, 7945, 7866, 7788, 7711, 7634, 7558, 7483, 7408,
     7334, 7261, 7189, 7118, 7047, 6977, 6907, 6839, 6771, 6703, 6637, 6570, 6505, 6440, 6376, 6313,

@@ -15,7 +15,7 @@ use Rattle.reader.specs.Lines.{Outcome, read, refused, holds}
 use Rattle.reader.specs.Storm.{storm_of, longest_record}
 use Rattle.reader.specs.Traverse.{held, start, no_points, rest_at, traverse_read, traverse_left, traverse_by, traverse_of}
 use Rattle.reader.specs.Window.{Cut, from_of, window_of, last_of, enough, TraverseRun, done, going, traverse_run, traverse_done}
-use Rattle.reader.proofs.Window.{shows-cut}
+use Rattle.reader.proofs.WindowLaws.{shows-cut}
 use Rattle.reader.proofs.Windows.{cut_holds, enough-most, not-counted, back, traverse-by-windows, traverse-finishes}
 use Rattle.march.specs.declared.State.{State}
 use Rattle.march.specs.Checks.{open_of}
@@ -115,10 +115,10 @@ module _ (s : List ℕ) (cuts : List Cut) where
   by-opening t (not_opened number place) st = all_said _
 
   by-traverse : (x : Outcome Known) (points : List ℤ) →
-      Drives (length s + 1 < enough longest_record cuts) (after_whole (traverse_read x).answer (read_traverse (traverse_read x) points) s cuts) (after_traverse (traverse_by x points) s)
+      Drives (length s + 1 < enough longest_record cuts) (after_whole (traverse_read x) points s cuts) (after_traverse (traverse_by x points) s)
   unfolding traverse_read begin_of
   by-traverse (read k at line) points =
-      let t = read_traverse (traverse_read (read k at line)) points in
+      let t = read_traverse (record { head = k.head; count = k.count }) points in
       by-opening t (open_of most_points t).answer (open_of most_points t).state
   by-traverse (refused q) points = all_said _
 

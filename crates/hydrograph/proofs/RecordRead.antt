@@ -11,9 +11,8 @@ use borrow.Author.Tests.{le-ltb}
 use Rattle.records.specs.Limits.{count_ok, most_points}
 use Rattle.records.specs.Shapes.{Traverse, Record, count}
 use Rattle.reader.specs.declared.Cursor.{Cursor}
-use Rattle.reader.specs.declared.storm.Next.TheVariants as next
-use Rattle.reader.specs.declared.storm.RecordStep.{RecordStep}
-use Rattle.reader.specs.declared.storm.RecordStep.TheVariants as step
+use Rattle.std.specs.Prelude.{Option, Some, Result, Ok}
+use Rattle.reader.specs.declared.storm.Halt.{Halt}
 use Rattle.reader.specs.Lines.{read, refused, Leaves, leaves}
 use Rattle.reader.specs.Storm.{Seen, record_size, record_in, one, none, next_of, too_few, needs-more, seen, record_step, record_step_left}
 use Rattle.march.specs.declared.State.{State}
@@ -22,10 +21,10 @@ use Rattle.reader.specs.Lent.{seen_answer}
 use Rattle.reader.proofs.LentLaws.{step-has-record, step-spares, step-answers}
 
 -- a record was read into numbers that have room for it
-pub step_room : (w : List ℕ) (last : Bool) (n at line : ℕ) (lent out : List ℤ) (p : RecordStep) (c : Cursor) → leaves p out ≡ record_step_left w last n at line lent →
-    p ≡ step.Answer (next.Read c) → record_size n ≤ length lent
+pub step_room : (w : List ℕ) (last : Bool) (n at line : ℕ) (lent out : List ℤ) (p : Result (Option Cursor) Halt) (c : Cursor) → leaves p out ≡ record_step_left w last n at line lent →
+    p ≡ Ok (Some c) → record_size n ≤ length lent
 step_room w last n at line lent out p c e f =
-    let h = step-has-record w last n at line lent c (sym (ap (λ (x : Leaves RecordStep). x.answer) e) ∙ f) in
+    let h = step-has-record w last n at line lent c (sym (ap (λ (x : Leaves (Result (Option Cursor) Halt)). x.answer) e) ∙ f) in
     omega (arith, h.0.room, (step-spares w last n at line lent).size)
 
 -- lent numbers with room for a record are not too few
@@ -43,7 +42,7 @@ module _ (t : Traverse) (w : List ℕ) (last : Bool) (at line : ℕ) (st : State
   unfolding next_of
   step-seen = by (record_step w last (count t) at line) refl (step-answers w last (count t) at line lent (room-enough (count t) (length lent) room))
     where
-      x : Leaves RecordStep
+      x : Leaves (Result (Option Cursor) Halt)
       x = record_step_left w last (count t) at line lent
 
       by : (s : Seen) → record_step w last (count t) at line ≡ s → x.answer ≡ seen_answer s → said_step x.answer x.numbers t st rows ≡ said_seen s t st rows

@@ -12,20 +12,18 @@ use Rattle.ranges.specs.Fraction.{◌/F◌}
 use Rattle.ranges.specs.Range.{lesser, greater, nearest}
 use Rattle.ranges.specs.Quotient.{quotient_low, quotient_high}
 use Rattle.ranges.specs.Damped.{damped_of, damped_least, damped_most, damped_low, damped_high, damped_floor, damped_ceil}
-use Rattle.records.specs.declared.Check.{Check}
-use Rattle.records.specs.declared.Check.TheVariants.{Pass, Fail}
+use Rattle.std.specs.Prelude.{Result, Ok, Err}
+use Rattle.records.specs.declared.Refusal.{Refusal}
 use Rattle.records.specs.CheckOrder.{first_bad, first_of}
 use Rattle.forcing.specs.Sine.{scaled_sine, sine_entry}
 use Rattle.forcing.specs.Quadrant.{sine_of, cosine_of}
 use Rattle.forcing.specs.Stress.{stress_of, cross_of, onshore_of}
 use Rattle.forcing.specs.Force.{force_of}
-use Rattle.records.specs.Groups.{wholes, station_at, put_station, point_at, row_at, groups, flat}
+use Rattle.records.specs.Groups.{wholes, group_at, put_group, groups, flat}
 use Rattle.records.specs.Limits.{inside, range_inside, count_ok, head_ok, station_ok, seconds_ok, point_ok, calm_ok, row_ok}
 use Rattle.records.specs.Refusals.{number_of}
 use Rattle.records.specs.Rows.{fresh_row}
 use Rattle.records.specs.Shapes.{storm}
-use Rattle.segment.specs.declared.SegmentAnswer.{SegmentAnswer}
-use Rattle.segment.specs.declared.SegmentAnswer.TheVariants.{On, Stop}
 use Rattle.segment.specs.Segment.{depth_of, flux_of, gain_of, next_setup, segment_of, shore_base}
 use Rattle.march.specs.Checks.{spacing_ok, traverse_checks, open_of, places_ok, lent_checks, times_ok, record_checks, record_check, checks_of}
 use Rattle.march.specs.March.{march_by, segment_at}
@@ -81,21 +79,17 @@ gain v onshore =
     ranged (gain_of (record { length = pos 10; depths = pos 1000; sine = pos 5000; friction = pos 25 }) (record { seconds = pos 0; level = pos 0; deficits = pos 0; cross = pos 0; onshore = onshore }) (one v) (one (pos 5000)))
 
 -- the refusal of a still first record at the water depth 5·(sum of the depths) + level
-abbrev segment_number : SegmentAnswer → Value
-segment_number (On leg) = refusal 0
-segment_number (Stop r) = refusal (number_of r.kind)
+abbrev answer_number : {A : Type 0} → Result A Refusal → Value
+answer_number (Ok x) = refusal 0
+answer_number (Err r) = refusal (number_of r.kind)
 
 abbrev still : ℤ → ℤ → Value
 still depths level =
-    segment_number (segment_of 1 true (record { length = pos 10; depths = depths; sine = pos 5000; friction = pos 25 }) (record { seconds = pos 0; level = level; deficits = pos 0; cross = pos 0; onshore = pos 0 }) fresh_row (one (pos 0)))
+    answer_number (segment_of 1 true (record { length = pos 10; depths = depths; sine = pos 5000; friction = pos 25 }) (record { seconds = pos 0; level = level; deficits = pos 0; cross = pos 0; onshore = pos 0 }) fresh_row (one (pos 0)))
 
 -- check 9 of a later record of so many seconds
-abbrev check_number : Check → Value
-check_number Pass = refusal 0
-check_number (Fail r) = refusal (number_of r.kind)
-
 abbrev lasting : ℤ → Value
-lasting seconds = check_number (record_check 0 (storm (record { seconds = seconds; tide = pos 0 }) []) (record { elapsed = pos 0; started = true }))
+lasting seconds = answer_number (record_check 0 (storm (record { seconds = seconds; tide = pos 0 }) []) (record { elapsed = pos 0; started = true }))
 
 -- ---- the two texts of the listing, and the listing
 
@@ -238,7 +232,7 @@ our_runs =
 -- ---- the facts
 
 all_runs : Agree reference_runs × Agree our_runs
-unfolding ◌/F◌ lesser greater nearest quotient_low quotient_high damped_least damped_most damped_low damped_high damped_floor damped_ceil scaled_sine sine_entry sine_of cosine_of stress_of cross_of onshore_of force_of wholes station_at put_station point_at row_at groups flat inside range_inside count_ok head_ok station_ok seconds_ok point_ok row_ok depth_of flux_of gain_of next_setup segment_of shore_base first_bad spacing_ok first_of traverse_checks open_of places_ok lent_checks times_ok record_checks checks_of calm_ok march_by segment_at take_of digits_of decimal_of signed_text values_line refused_line more digit_at digits worth good_of signed_value start_at good_at value_at past_at close_of repeated kept_with same_with values_at lines_at spells names_at storm_start record_of next_at records_by storm_rest storm_of start with_values stored_at with_point line_at counted_by end_at rest_by rest_at traverse_of hydrograph_lines listing_of
+unfolding ◌/F◌ lesser greater nearest quotient_low quotient_high damped_least damped_most damped_low damped_high damped_floor damped_ceil scaled_sine sine_entry sine_of cosine_of stress_of cross_of onshore_of force_of wholes group_at put_group groups flat inside range_inside count_ok head_ok station_ok seconds_ok point_ok row_ok depth_of flux_of gain_of next_setup segment_of shore_base first_bad spacing_ok first_of traverse_checks open_of places_ok lent_checks times_ok record_checks checks_of calm_ok march_by segment_at take_of digits_of decimal_of signed_text values_line refused_line more digit_at digits worth good_of signed_value start_at good_at value_at past_at close_of repeated kept_with same_with values_at lines_at spells names_at storm_start record_of next_at records_by storm_rest storm_of start with_values stored_at with_point line_at counted_by end_at rest_by rest_at traverse_of hydrograph_lines listing_of
 all_runs = (refl, refl)
 
 -- the paper's table

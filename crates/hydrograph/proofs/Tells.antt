@@ -14,12 +14,13 @@ use Rattle.records.specs.Refusals.{refusal}
 use Rattle.records.specs.Limits.{most_points, count_ok}
 use Rattle.records.specs.Shapes.{Traverse, count}
 use Rattle.listing.specs.Lines.{record_line}
-use Rattle.reader.specs.declared.Lines.{Lines}
-use Rattle.reader.specs.declared.Lines.TheVariants.{Read, Refused}
-use Rattle.reader.specs.declared.storm.StartStep.TheVariants as start-step
+use Rattle.std.specs.Prelude.{Result, Ok, Err}
+use Rattle.records.specs.declared.Refusal.{Refusal}
+use Rattle.reader.specs.declared.Cursor.{Cursor}
+use Rattle.reader.specs.declared.storm.Halt.TheVariants as halt
 use Rattle.reader.specs.Text.{more}
 use Rattle.reader.specs.Lines.{Outcome, read, refused, found, Line, full, bad, values_at, lines_read, after, lines_at, names_at, spells, holds}
-use Rattle.reader.specs.Storm.{record_of, record_lines, Further, one, none, next_at, storm_names, storm_start, storm_by, storm_rest, storm_from, storm_of, start_step, holds_record, seen, needs-more, record_step, longest_record}
+use Rattle.reader.specs.Storm.{record_of, record_lines, Further, one, none, next_at, storm_names, storm_start, storm_by, storm_rest, storm_from, storm_of, start_step, answered, holds_record, seen, needs-more, record_step, longest_record}
 use Rattle.reader.specs.Window.{Shows, moved}
 use Rattle.reader.proofs.StormLaws.{counts-in}
 use Rattle.reader.proofs.Ends.{Stays, start-stays, Read-on, next-on}
@@ -42,9 +43,9 @@ more-pos n = go (ltb n 18446744073709551615) refl
     go false e = omega (arith, ltb-false n 18446744073709551615 e)
 
 -- some line was counted, wherever lines were read
-abbrev CountedLines : Lines → Type 0
-CountedLines (Read c) = 0 < c.line
-CountedLines (Refused r) = Unit {0}
+abbrev CountedLines : Result Cursor Refusal → Type 0
+CountedLines (Ok c) = 0 < c.line
+CountedLines (Err r) = Unit {0}
 
 -- and wherever anything was
 abbrev Counted : {A : Type 0} → Outcome A → Type 0
@@ -58,7 +59,7 @@ lines-counted s width shared (suc n) i at line kept h =
     go (ltb at (length s)) (values_at s shared i width 0 at kept true) (λ a l. lines-counted s width shared n (i + 1) a (more line) l (more-pos line))
   where
     go : (b : Bool) (x : Line) → ((a : ℕ) (l : List ℤ) → CountedLines (lines_at s width shared n (i + 1) a (more line) l).answer)
-        → CountedLines (cond b (after x (more line) (λ a l. lines_at s width shared n (i + 1) a (more line) l)) (lines_read (Refused (refusal Ended line)) kept)).answer
+        → CountedLines (cond b (after x (more line) (λ a l. lines_at s width shared n (i + 1) a (more line) l)) (lines_read (Err (refusal Ended line)) kept)).answer
     go true (full a l true) k = k a l
     go true (full a l false) k = tt
     go true (bad l) k = tt
@@ -68,10 +69,10 @@ next-counted : (s : List ℕ) (n at line : ℕ) → 0 < line → Counted (next_a
 unfolding next_at
 next-counted s n at line h = go (count_ok most_points n) (ltb at (length s)) (ltb 1 line) (record_lines s n at line).answer (lines-counted s 5 2 n 0 at line [] h)
   where
-    go : (b c d : Bool) (x : Lines) → CountedLines x
+    go : (b c d : Bool) (x : Result Cursor Refusal) → CountedLines x
         → Counted (cond b (cond c (found x (one (record_of (record_lines s n at line).kept))) (cond d (read none at line) (refused (refusal Ended line)))) (refused (refusal Points n)))
-    go true true d (Read a) k = k
-    go true true d (Refused r) k = tt
+    go true true d (Ok a) k = k
+    go true true d (Err r) k = tt
     go true false true x k = h
     go true false false x k = tt
     go false c d x k = tt
@@ -80,7 +81,7 @@ start-counted : (s : List ℕ) → CountedLines (storm_start s)
 unfolding storm_start names_at
 start-counted s = go (spells s 0 storm_names)
   where
-    go : (b : Bool) → CountedLines (cond b (Read (record { at = 0 + length storm_names; line = more 0 })) (Refused (refusal Names (more 0))))
+    go : (b : Bool) → CountedLines (cond b (Ok (record { at = 0 + length storm_names; line = more 0 })) (Err (refusal Names (more 0))))
     go true = more-pos 0
     go false = tt
 
@@ -92,18 +93,18 @@ module _ (s : List ℕ) (t : Traverse) where
   lines-on at line st rows l = rw (ne_eqb line 0 (omega arith))
 
   module _ (w : List ℕ) (o : ℕ) (last : Bool) (sh : Shows s w o last) (at : ℕ) (st : State) (rows : List ℤ) where
-    start-then : (r : Lines) → o ≡ 0 → CountedLines r →
-        said_then s t o at 0 st rows (said_start (start-step.Answer r)) ≡ storm_lines t st rows (storm_from r (storm_rest s (count t)))
+    start-then : (r : Result Cursor Refusal) → o ≡ 0 → CountedLines r →
+        said_then s t o at 0 st rows (said_start (answered r)) ≡ storm_lines t st rows (storm_from r (storm_rest s (count t)))
     unfolding hydrograph_lines
-    start-then (Read d) z k = let e : o + d.at ≡ d.at = omega arith in lines-on (o + d.at) d.line st rows k ∙ rw e
-    start-then (Refused q) z k = refl
+    start-then (Ok d) z k = let e : o + d.at ≡ d.at = omega arith in lines-on (o + d.at) d.line st rows k ∙ rw e
+    start-then (Err q) z k = refl
 
     start-tells : o ≡ 0 → said_then s t o at 0 st rows (start_turn w last) ≡ storm_lines t st rows (storm_of s (count t))
     unfolding start_step storm_of
     start-tells z = go (holds (length w) last 0 32) refl
       where
         go : (b : Bool) → holds (length w) last 0 32 ≡ b →
-            said_then s t o at 0 st rows (said_start (cond b (start-step.Answer (storm_start w)) start-step.More)) ≡ storm_lines t st rows (storm_from (storm_start s) (storm_rest s (count t)))
+            said_then s t o at 0 st rows (said_start (cond b (answered (storm_start w)) (Err halt.More))) ≡ storm_lines t st rows (storm_from (storm_start s) (storm_rest s (count t)))
         go true e = rw (start-window s w o last sh z e) (start-then (storm_start w) z (start-counted w))
         go false e = refl
 
@@ -169,15 +170,15 @@ next-within s n at line = go (leb at (length s)) refl
     go false e = unfold next_at in rw (le-ltb at (length s) (omega (arith, leb-false at (length s) e))) (past (count_ok most_points n) (ltb 1 line))
 
 module _ (w : List ℕ) (last : Bool) (at : ℕ) where
-  start-on : (r : Lines) → CountedLines r → Stays (length w) r → Advances (length w) last at 0 (said_start (start-step.Answer r))
-  start-on (Read d) k h = (refl, (k, h))
-  start-on (Refused q) k h = tt
+  start-on : (r : Result Cursor Refusal) → CountedLines r → Stays (length w) r → Advances (length w) last at 0 (said_start (answered r))
+  start-on (Ok d) k h = (refl, (k, h))
+  start-on (Err q) k h = tt
 
   start-moves : Advances (length w) last at 0 (start_turn w last)
   unfolding start_step
   start-moves = go (holds (length w) last 0 32) refl
     where
-      go : (b : Bool) → holds (length w) last 0 32 ≡ b → Advances (length w) last at 0 (said_start (cond b (start-step.Answer (storm_start w)) start-step.More))
+      go : (b : Bool) → holds (length w) last 0 32 ≡ b → Advances (length w) last at 0 (said_start (cond b (answered (storm_start w)) (Err halt.More)))
       go true e = start-on (storm_start w) (start-counted w) (start-stays w)
       go false e = holds-fewer (length w) last 0 32 at longest_record (omega arith) e
 

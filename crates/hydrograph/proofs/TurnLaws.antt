@@ -9,25 +9,20 @@ use lib.ListN.{length, take, drop}
 use lib.IntN.{ℤ}
 use borrow.Author.Tests.{eq-eqb, ne_eqb, not-true, not-false, leb-true}
 use Rattle.records.specs.declared.Refusal.{Refusal}
-use Rattle.records.specs.Groups.{at}
+use Rattle.records.specs.declared.Closing.{Closing}
+use Rattle.records.specs.Groups.{closing_of, group_at}
 use Rattle.records.specs.Limits.{most_points}
 use Rattle.records.specs.Shapes.{Traverse, Record, storm, count}
-use Rattle.records.specs.declared.Check.TheVariants.{Pass, Fail}
-use Rattle.listing.specs.declared.Put.{Put}
-use Rattle.listing.specs.declared.Put.TheVariants.{Next, Full}
-use Rattle.listing.specs.Put.{AfterPut, after_put, put_of, written}
+use Rattle.std.specs.Prelude.{Option, Result, Ok, Err}
+use Rattle.listing.specs.Put.{written}
 use Rattle.listing.specs.Lines.{names_line, record_line}
-use Rattle.listing.proofs.Answer.{put-fits}
-use Rattle.reader.specs.declared.Lines.TheVariants.{Read, Refused}
-use Rattle.reader.specs.declared.storm.StartStep.{StartStep}
-use Rattle.reader.specs.declared.storm.StartStep.TheVariants as start-step
-use Rattle.reader.specs.declared.storm.RecordStep.{RecordStep}
+use Rattle.reader.specs.declared.Cursor.{Cursor}
+use Rattle.reader.specs.declared.storm.Halt.{Halt}
+use Rattle.reader.specs.declared.storm.Halt.TheVariants as halt
 use Rattle.reader.specs.Lines.{Leaves, leaves}
 use Rattle.reader.specs.Storm.{record_size, record_in, start_step, record_step_left}
 use Rattle.march.specs.declared.State.{State}
-use Rattle.march.specs.declared.Answer.TheVariants as answer
-use Rattle.march.specs.declared.Taken.{Taken}
-use Rattle.march.specs.declared.Opened.{Opened}
+use Rattle.ranges.specs.declared.Range.{Range}
 use Rattle.march.specs.Answers.{told_of, ToldOpen, opened, told_open}
 use Rattle.march.specs.Checks.{fresh_state, LeftOpen, open_of, opened_by}
 use Rattle.march.specs.Take.{Left, left}
@@ -39,29 +34,8 @@ use Rattle.hydrograph.specs.declared.Turned.{Turned}
 use Rattle.hydrograph.specs.Listing.{refusal_line, taken_by}
 use Rattle.hydrograph.specs.Turns.{Said, says, ends, said_taken, taken_said, said_step, said_start, start_turn, record_turn, turn_of, Heard, heard_step, record_heard, turn_heard, line_room, LeftTurn, left_turn, printed, turn_left, fresh_run, said_open, begin_of}
 
--- ---- a line for which there is room was put
-
 abbrev turned : Turn → Run → Turned
 turned t run = record { turn = t; run = run }
-
-module _ (line : List ℕ) (used : ℕ) (out out' : List ℕ) (p : Put) (long : length line ≤ line_room) (room : used + line_room ≤ length out) (e : after_put p out' ≡ put_of line used out) where
-  fitted : after_put p out' ≡ after_put (Next (used + length line)) (written line used out)
-  fitted = e ∙ put-fits line used out (omega arith)
-
-  place : (k : ℕ) → p ≡ Next k → k ≡ used + length line
-  place k f = cc (ap (λ (x : AfterPut). x.answer) fitted)
-
-  stored : out' ≡ written line used out
-  stored = ap (λ (x : AfterPut). x.out) fitted
-
-  pub put-line : (run : Run) (k : ℕ) → p ≡ Next k → (turned (turn.Line k) run ≡ turned (turn.Line (used + length line)) run) × (out' ≡ written line used out)
-  put-line run k f = (ap (λ (n : ℕ). turned (turn.Line n) run) (place k f), stored)
-
-  pub put_last : (run : Run) (k : ℕ) → p ≡ Next k → (turned (turn.End k) run ≡ turned (turn.End (used + length line)) run) × (out' ≡ written line used out)
-  put_last run k f = (ap (λ (n : ℕ). turned (turn.End n) run) (place k f), stored)
-
-  pub never-full : p ≡ Full → ⊥
-  never-full f = let z : ◌≡◌ {A = ℕ} 0 1 = cc (ap (λ (x : AfterPut). x.answer) fitted) in omega arith
 
 -- ---- what is said, printed
 
@@ -81,7 +55,7 @@ carry said said' run x numbers rows out used e h = subst (λ (z : Said). x ≡ p
 
 -- ---- the names line of the storm
 
-pub said-start : (w : List ℕ) (last : Bool) (p q : StartStep) → p ≡ start_step w last → p ≡ q → start_turn w last ≡ said_start q
+pub said-start : (w : List ℕ) (last : Bool) (p q : Result Cursor Halt) → p ≡ start_step w last → p ≡ q → start_turn w last ≡ said_start q
 said-start w last p q e f = ap said_start (sym e ∙ f)
 
 -- it leaves the lent numbers and the rows as they are
@@ -92,56 +66,56 @@ start-with w last x run numbers rows out out' used = go (start_step w last)
     lent : LeftTurn → LeftTurn
     lent l = record { turn = l.turn; run = l.run; numbers = numbers; rows = rows; out = l.out }
 
-    go : (q : StartStep) → left_turn x [] [] out' ≡ printed (said_start q) run [] [] out used → left_turn x numbers rows out' ≡ printed (said_start q) run numbers rows out used
-    go start-step.More e = ap lent e
-    go (start-step.Answer (Read c)) e = ap lent e
-    go (start-step.Answer (Refused r)) e = ap lent e
+    go : (q : Result Cursor Halt) → left_turn x [] [] out' ≡ printed (said_start q) run [] [] out used → left_turn x numbers rows out' ≡ printed (said_start q) run numbers rows out used
+    go (Err halt.More) e = ap lent e
+    go (Ok c) e = ap lent e
+    go (Err (halt.Refused r)) e = ap lent e
 
 -- ---- the next record of the storm
 
-module _ (t : Traverse) (w : List ℕ) (last : Bool) (a l : ℕ) (st : State) (rows numbers numbers' : List ℤ) (n : ℕ) (p : RecordStep) (c : n ≡ count t)
+module _ (t : Traverse) (w : List ℕ) (last : Bool) (a l : ℕ) (st : State) (rows numbers numbers' : List ℤ) (n : ℕ) (p : Result (Option Cursor) Halt) (c : n ≡ count t)
     (e : leaves p numbers' ≡ record_step_left w last n a l numbers) where
-  heard-is : (q : RecordStep) → p ≡ q → record_heard t w last a l st rows numbers ≡ heard_step (leaves q numbers') t st rows
+  heard-is : (q : Result (Option Cursor) Halt) → p ≡ q → record_heard t w last a l st rows numbers ≡ heard_step (leaves q numbers') t st rows
   heard-is q f =
       ap (λ (k : ℕ). heard_step (record_step_left w last k a l numbers) t st rows) (sym c)
-      ∙ ap (λ (x : Leaves RecordStep). heard_step x t st rows) (sym e)
-      ∙ ap (λ (x : RecordStep). heard_step (leaves x numbers') t st rows) f
+      ∙ ap (λ (x : Leaves (Result (Option Cursor) Halt)). heard_step x t st rows) (sym e)
+      ∙ ap (λ (x : Result (Option Cursor) Halt). heard_step (leaves x numbers') t st rows) f
 
-  pub heard-printed : (q : RecordStep) → p ≡ q → (x : LeftTurn) (run : Run) (out : List ℕ) (used : ℕ) → x ≡ printed (said_step q numbers' t st rows) run numbers' rows out used →
+  pub heard-printed : (q : Result (Option Cursor) Halt) → p ≡ q → (x : LeftTurn) (run : Run) (out : List ℕ) (used : ℕ) → x ≡ printed (said_step q numbers' t st rows) run numbers' rows out used →
       x ≡ printed (record_heard t w last a l st rows numbers).said run (record_heard t w last a l st rows numbers).numbers rows out used
   heard-printed q f x run out used h = subst (λ (y : Heard). x ≡ printed y.said run y.numbers rows out used) (sym (heard-is q f)) h
 
 -- ---- a record that was read
 
 -- the record that the code takes is the one that the numbers are
-pub record_is : (n end : ℕ) (l : List ℤ) (seconds tide : ℤ) → end ≡ record_size n → record_size n ≤ length l → seconds ≡ at l 0 → tide ≡ at l 1 →
-    storm (record { seconds = seconds; tide = tide }) (take (end - 2) (drop 2 l)) ≡ record_in n l
-record_is n end l seconds tide e h f g = let z : end - 2 ≡ 3 * n = omega arith in rw (f, g, z)
+pub record_is : (n end : ℕ) (l : List ℤ) (c : Closing) → end ≡ record_size n → c ≡ group_at closing_of 2 l 0 → storm c (take (end - 2) (drop 2 l)) ≡ record_in n l
+unfolding group_at
+record_is n end l c e f = let z : end - 2 ≡ 3 * n = omega arith in rw (f, z)
 
-module _ (t : Traverse) (r r' : Record) (a l : ℕ) (st : State) (rows rows' places : List ℤ) (x : Taken) (e : r' ≡ r) (h : left x rows' places ≡ taken_by t r' st rows) where
-  taken_is : taken_by t r st rows ≡ left x rows' places
-  taken_is = subst (λ (y : Record). taken_by t y st rows ≡ left x rows' places) e (sym h)
+module _ (t : Traverse) (r r' : Record) (a l : ℕ) (st st' : State) (rows rows' places : List ℤ) (x : Result Range Refusal) (e : r' ≡ r) (h : left x st' rows' places ≡ taken_by t r' st rows) where
+  taken_is : taken_by t r st rows ≡ left x st' rows' places
+  taken_is = subst (λ (y : Record). taken_by t y st rows ≡ left x st' rows' places) e (sym h)
 
-  said-is : taken_said t r a l st rows ≡ said_taken (told_of x.answer) a l x.state rows'
+  said-is : taken_said t r a l st rows ≡ said_taken (told_of x st') a l st' rows'
   said-is = ap (λ (y : Left). said_taken y.answer a l y.state y.rows) taken_is
 
   -- where it is refused, the rows stay
-  rows_stay : (refusal : Refusal) → x.answer ≡ answer.Refused refusal → rows' ≡ rows
+  rows_stay : (refusal : Refusal) → x ≡ Err refusal → rows' ≡ rows
   rows_stay refusal f =
       ap (λ (y : Left). y.rows) h
-      ∙ refused-rows (record { most = most_points; traverse = t; storm = r'; state = st; rows = rows; setup = [] }) _ _ (ap (λ (y : Left). y.answer) (sym h) ∙ ap told_of f)
+      ∙ refused-rows (record { most = most_points; traverse = t; storm = r'; state = st; rows = rows; setup = [] }) _ _ (ap (λ (y : Left). y.answer) (sym h) ∙ ap (λ (y : Result Range Refusal). told_of y st') f)
 
   module _ (y : Turned) (run : Run) (numbers : List ℤ) (out out' : List ℕ) (used : ℕ) where
-    pub taken_refused : (refusal : Refusal) → x.answer ≡ answer.Refused refusal → y ≡ turned (turn.End (used + length (refusal_line refusal))) run →
+    pub taken_refused : (refusal : Refusal) → x ≡ Err refusal → y ≡ turned (turn.End (used + length (refusal_line refusal))) run →
         out' ≡ written (refusal_line refusal) used out → left_turn y numbers rows' out' ≡ printed (taken_said t r a l st rows) run numbers rows out used
     taken_refused refusal f p q =
         carry (ends (refusal_line refusal)) (taken_said t r a l st rows) run (left_turn y numbers rows' out') numbers rows out used (said-is ∙ rw f) (rw (rows_stay refusal f, p, q))
 
-    pub taken-accepted : (elapsed low high : ℤ) → x.answer ≡ answer.Accepted elapsed low high →
-        y ≡ turned (turn.Line (used + length (record_line elapsed low high))) (record { cursor = record { at = a; line = l }; state = x.state }) →
-        out' ≡ written (record_line elapsed low high) used out → left_turn y numbers rows' out' ≡ printed (taken_said t r a l st rows) run numbers rows out used
-    taken-accepted elapsed low high f p q =
-        carry (says (record_line elapsed low high) a l x.state rows') (taken_said t r a l st rows) run (left_turn y numbers rows' out') numbers rows out used (said-is ∙ rw f) (rw (p, q))
+    pub taken-accepted : (height : Range) → x ≡ Ok height →
+        y ≡ turned (turn.Line (used + length (record_line st'.elapsed height.low height.high))) (record { cursor = record { at = a; line = l }; state = st' }) →
+        out' ≡ written (record_line st'.elapsed height.low height.high) used out → left_turn y numbers rows' out' ≡ printed (taken_said t r a l st rows) run numbers rows out used
+    taken-accepted height f p q =
+        carry (says (record_line st'.elapsed height.low height.high) a l st' rows') (taken_said t r a l st rows) run (left_turn y numbers rows' out') numbers rows out used (said-is ∙ rw f) (rw (p, q))
 
 -- ---- which of the two a turn is
 
@@ -179,37 +153,25 @@ module _ (used : ℕ) (out : List ℕ) (room : Bool) (test : room ≡ leb (used 
 
 -- ---- opening
 
--- a run at the text's start
-abbrev start_run : State → Run
-start_run st = record { cursor = record { at = 0; line = 0 }; state = st }
-
-module _ (t : Traverse) (o : Opened) (h : opened_by o ≡ open_of most_points t) where
-  pub fresh-is : start_run o.state ≡ fresh_run
-  unfolding open_of
-  fresh-is = ap (λ (l : LeftOpen). start_run l.state) h
-
-  begin-is : (told : ToldOpen) → told_open o.check ≡ told → begin_of t [] ≡ said_open told fresh_state []
+module _ (t : Traverse) (o : Result State Refusal) (h : opened_by o ≡ open_of most_points t) where
+  begin-is : (told : ToldOpen) → (opened_by o).answer ≡ told → begin_of t [] ≡ said_open told fresh_state []
   unfolding begin_of open_of
   begin-is told f = ap (λ (a : ToldOpen). said_open a fresh_state []) (sym (ap (λ (l : LeftOpen). l.answer) h) ∙ f)
 
   abbrev Heard-begin : Heard
   Heard-begin = record { said = begin_of t []; numbers = [] }
 
-  module _ (used : ℕ) (out : List ℕ) (room : Bool) (test : room ≡ leb (used + line_room) (length out)) where
-    pub begin-full : not room ≡ true → left_turn (turned turn.Full (start_run o.state)) [] [] out ≡ turn_left (record { said = begin_of t []; numbers = [] }) fresh_run [] [] out used
-    begin-full f = rw fresh-is (turn-full used out room test Heard-begin fresh_run [] [] f)
+  module _ (used : ℕ) (out : List ℕ) (room : Bool) (test : room ≡ leb (used + line_room) (length out)) (f : not room ≡ false) (x : Turned) (out' : List ℕ) where
+    pub begin-opened : (st : State) → o ≡ Ok st → x ≡ turned (turn.Line (used + length names_line)) fresh_run → out' ≡ written names_line used out →
+        left_turn x [] [] out' ≡ turn_left (record { said = begin_of t []; numbers = [] }) fresh_run [] [] out used
+    begin-opened st k e g =
+        turn-printed used out room test Heard-begin fresh_run [] [] f (record { said = says names_line 0 0 fresh_state []; numbers = [] })
+        (ap (λ (s : Said). record { said = s; numbers = [] }) (begin-is opened (ap (λ (y : Result State Refusal). (opened_by y).answer) k))) (left_turn x [] [] out')
+        (printed-line x fresh_run [] [] out out' used names_line fresh_run [] e g)
 
-    module _ (f : not room ≡ false) (x : Turned) (out' : List ℕ) where
-      pub begin-opened : o.check ≡ Pass → x ≡ turned (turn.Line (used + length names_line)) (start_run o.state) → out' ≡ written names_line used out →
-          left_turn x [] [] out' ≡ turn_left (record { said = begin_of t []; numbers = [] }) fresh_run [] [] out used
-      begin-opened k e g =
-          turn-printed used out room test Heard-begin fresh_run [] [] f (record { said = says names_line 0 0 fresh_state []; numbers = [] })
-          (ap (λ (s : Said). record { said = s; numbers = [] }) (begin-is opened (ap told_open k))) (left_turn x [] [] out')
-          (printed-line x fresh_run [] [] out out' used names_line fresh_run [] (e ∙ ap (turned (turn.Line (used + length names_line))) fresh-is) g)
-
-      pub begin-refused : (refusal : Refusal) → o.check ≡ Fail refusal → x ≡ turned (turn.End (used + length (refusal_line refusal))) (start_run o.state) →
-          out' ≡ written (refusal_line refusal) used out → left_turn x [] [] out' ≡ turn_left (record { said = begin_of t []; numbers = [] }) fresh_run [] [] out used
-      begin-refused refusal k e g =
-          turn-printed used out room test Heard-begin fresh_run [] [] f (record { said = ends (refusal_line refusal); numbers = [] })
-          (ap (λ (s : Said). record { said = s; numbers = [] }) (begin-is (told_open (Fail refusal)) (ap told_open k))) (left_turn x [] [] out')
-          (printed-last x fresh_run [] [] out out' used (refusal_line refusal) (e ∙ ap (turned (turn.End (used + length (refusal_line refusal)))) fresh-is) g)
+    pub begin-refused : (refusal : Refusal) → o ≡ Err refusal → x ≡ turned (turn.End (used + length (refusal_line refusal))) fresh_run →
+        out' ≡ written (refusal_line refusal) used out → left_turn x [] [] out' ≡ turn_left (record { said = begin_of t []; numbers = [] }) fresh_run [] [] out used
+    begin-refused refusal k e g =
+        turn-printed used out room test Heard-begin fresh_run [] [] f (record { said = ends (refusal_line refusal); numbers = [] })
+        (ap (λ (s : Said). record { said = s; numbers = [] }) (begin-is (told_open (Err refusal)) (ap (λ (y : Result State Refusal). (opened_by y).answer) k))) (left_turn x [] [] out')
+        (printed-last x fresh_run [] [] out out' used (refusal_line refusal) e g)

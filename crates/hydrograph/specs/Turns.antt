@@ -1,19 +1,15 @@
 -- The driver's turns: what one turn on a window of `storm.txt` says, how it goes into the output buffer, and what turn after turn prints.
-use Rattle.std.specs.Prelude.{◌≡◌, Bool, true, false, cond, List, [], ◌∷◌, ◌++◌, ℕ, ◌+◌, ◌-◌, ◌*◌, ◌<◌, ◌≤◌, eqb, leb, length, take, ℤ}
+use Rattle.std.specs.Prelude.{◌≡◌, Bool, true, false, cond, List, [], ◌∷◌, ◌++◌, ℕ, ◌+◌, ◌-◌, ◌*◌, ◌<◌, ◌≤◌, eqb, leb, length, take, ℤ, Option, Some, None, Result, Ok, Err}
+use Rattle.records.specs.declared.Refusal.{Refusal}
 use Rattle.records.specs.Limits.{most_points}
 use Rattle.records.specs.Shapes.{Traverse, Record, traverse, count}
 use Rattle.listing.specs.Lines.{names_line, record_line, refused_line}
 use Rattle.listing.specs.Put.{written}
-use Rattle.reader.specs.declared.Lines.TheVariants.{Read, Refused}
-use Rattle.reader.specs.declared.storm.Next.TheVariants as next
-use Rattle.reader.specs.declared.storm.RecordStep.{RecordStep}
-use Rattle.reader.specs.declared.storm.RecordStep.TheVariants as step
-use Rattle.reader.specs.declared.storm.StartStep.{StartStep}
-use Rattle.reader.specs.declared.storm.StartStep.TheVariants as start-step
+use Rattle.reader.specs.declared.Cursor.{Cursor}
+use Rattle.reader.specs.declared.storm.Halt.{Halt}
+use Rattle.reader.specs.declared.storm.Halt.TheVariants as halt
 use Rattle.reader.specs.Lines.{Leaves, read, refused}
 use Rattle.reader.specs.Storm.{Seen, needs-more, seen, one, none, record_in, storm_rest, storm_of, start_step, record_step, record_step_left, longest_record}
-use Rattle.reader.specs.declared.traverse.Whole.{Whole}
-use Rattle.reader.specs.declared.traverse.Whole.TheVariants as whole
 use Rattle.reader.specs.declared.traverse.TraverseRead.{TraverseRead}
 use Rattle.reader.specs.Traverse.{held, start, no_points}
 use Rattle.reader.specs.Window.{Shows, Cut, from_of, window_of, last_of, enough, TraverseRun, done, going, traverse_run}
@@ -57,10 +53,10 @@ said_seen (seen (read (one r) at line)) t st rows = taken_said t r at line st ro
 said_seen (seen (read none at line)) t st rows = quiet
 said_seen (seen (refused r)) t st rows = ends (refusal_line r)
 
-abbrev pub said_start : StartStep → Said
-said_start start-step.More = more
-said_start (start-step.Answer (Read c)) = reads c.at c.line
-said_start (start-step.Answer (Refused r)) = ends (refusal_line r)
+abbrev pub said_start : Result Cursor Halt → Said
+said_start (Err halt.More) = more
+said_start (Ok c) = reads c.at c.line
+said_start (Err (halt.Refused r)) = ends (refusal_line r)
 
 -- the names line, where none was read yet, and a record
 abbrev pub start_turn : List ℕ → Bool → Said
@@ -92,18 +88,18 @@ TurnTells =
 
 -- ---- the same by the numbers that a record is read into: they are the record where there is room for it (`proofs/RecordRead.antt`, `turn-seen`)
 
-abbrev pub said_step : RecordStep → List ℤ → Traverse → State → List ℤ → Said
-said_step step.More numbers t st rows = more
-said_step (step.Answer (next.Read c)) numbers t st rows = taken_said t (record_in (count t) numbers) c.at c.line st rows
-said_step (step.Answer next.End) numbers t st rows = quiet
-said_step (step.Answer (next.Refused r)) numbers t st rows = ends (refusal_line r)
+abbrev pub said_step : Result (Option Cursor) Halt → List ℤ → Traverse → State → List ℤ → Said
+said_step (Err halt.More) numbers t st rows = more
+said_step (Ok (Some c)) numbers t st rows = taken_said t (record_in (count t) numbers) c.at c.line st rows
+said_step (Ok None) numbers t st rows = quiet
+said_step (Err (halt.Refused r)) numbers t st rows = ends (refusal_line r)
 
 -- what is said, and the lent numbers then
 pub record Heard : Type 0 where
   pub said : Said
   pub numbers : List ℤ
 
-abbrev pub heard_step : Leaves RecordStep → Traverse → State → List ℤ → Heard
+abbrev pub heard_step : Leaves (Result (Option Cursor) Halt) → Traverse → State → List ℤ → Heard
 heard_step x t st rows = record { said = said_step x.answer x.numbers t st rows; numbers = x.numbers }
 
 abbrev pub record_heard : Traverse → List ℕ → Bool → ℕ → ℕ → State → List ℤ → List ℤ → Heard
@@ -194,12 +190,12 @@ after_opened quiet t s cuts = record { bytes = []; finished = false }
 abbrev pub read_traverse : TraverseRead → List ℤ → Traverse
 read_traverse x points = traverse x.head (take (2 * x.count) points)
 
-abbrev pub after_whole : Whole → Traverse → List ℕ → List Cut → Driven
-after_whole whole.Read t s cuts = after_opened (begin_of t (fresh_rows t)) t s cuts
-after_whole (whole.Refused r) t s cuts = record { bytes = refusal_line r; finished = true }
+abbrev pub after_whole : Result TraverseRead Refusal → List ℤ → List ℕ → List Cut → Driven
+after_whole (Ok x) points s cuts = after_opened (begin_of (read_traverse x points) (fresh_rows (read_traverse x points))) (read_traverse x points) s cuts
+after_whole (Err r) points s cuts = record { bytes = refusal_line r; finished = true }
 
 abbrev pub after_run : TraverseRun → List ℕ → List Cut → Driven
-after_run (done x) s cuts = after_whole x.answer.answer (read_traverse x.answer x.numbers) s cuts
+after_run (done x) s cuts = after_whole x.answer x.numbers s cuts
 after_run (going h at line) s cuts = record { bytes = []; finished = false }
 
 unfoldable pub drive_all : List ℕ → List Cut → List ℕ → List Cut → Driven

@@ -4,22 +4,24 @@
 #![tactic(auto)]
 
 ghost use Rattle.std.specs.Prelude.{◌≡◌, [], ◌+◌, ◌≤◌, length, leb};
-ghost use Rattle.records.specs.Shapes.{traverse, count};
-ghost use Rattle.listing.specs.Lines.{names_line, record_line};
+ghost use Rattle.records.specs.Shapes.{traverse_of, count};
+ghost use Rattle.listing.specs.Lines.{line_text, names_line, record_line};
 ghost use Rattle.listing.specs.Put.{written};
 ghost use Rattle.hydrograph.specs.Listing.{refusal_line};
 ghost use Rattle.reader.specs.Storm.{record_size, record_in};
 ghost use Rattle.hydrograph.specs.declared.Turn.TheVariants as turn;
 ghost use Rattle.hydrograph.specs.Turns.{taken_said, start_turn, record_heard, turn_heard, line_room, left_turn, printed, turn_left, fresh_run, begin_of};
 
-use listing::Put;
-use march::{Answer, Call, State};
-use reader::{Cursor, Lines, Next, RecordStep, StartStep};
-use records::groups::whole_groups;
-use records::{Check, Closing, Head, Point, Refusal, Station};
+use listing::Line;
+use listing::decimals::has_room;
+use march::State;
+use ranges::Range;
+use reader::{Cursor, Halt, Window};
+use records::groups::{Group, count, group_at};
+use records::{Closing, Point, Refusal, Station, StormRecord, Traverse};
 
 // What is carried from turn to turn beside the lent numbers: the cursor in the window, and the state.
-#[derive(Clone, Copy)]
+#[derive(Clone, Copy, Debug, PartialEq, Eq)]
 pub struct Run {
     pub cursor: Cursor,
     pub state: State,
@@ -27,7 +29,7 @@ pub struct Run {
 
 // What a turn did. More: nothing, it needs more of the text. Line: the names line was read, or a record's line put; the place behind it.
 // End: the last line was put, or there is none; the place behind it. Full: nothing, there is no room for a line.
-#[derive(Clone, Copy)]
+#[derive(Clone, Copy, Debug, PartialEq, Eq)]
 pub enum Turn {
     More,
     Line(usize),
@@ -35,23 +37,42 @@ pub enum Turn {
     Full,
 }
 
-#[derive(Clone, Copy)]
+// What a turn did, and the run after it.
+#[derive(Clone, Copy, Debug, PartialEq, Eq)]
 pub struct Turned {
     pub turn: Turn,
     pub run: Run,
 }
 
-// The most bytes of a line of the listing: three numbers of 21 with what closes them.
+// Room that any line of the listing has: none takes more than 63 bytes, and the definitions ask for 66 (`line_room`).
 const LINE: usize = 66;
 
 // Whether a buffer of this size has room for a line behind so many bytes.
 fn has_line_room(size: usize, used: usize) -> bool
     ensures { result ≡ leb (used + line_room) size }
 {
-    if size < LINE {
-        return false;
+    has_room(size, used, LINE)
+}
+
+// A line, for which there is room; the place behind it.
+pub fn put_line(line: Line, out: &mut [u8], used: usize) -> usize
+    requires { used + line_room ≤ length out.old }
+    ensures place { result ≡ used + length (line_text line) }
+    ensures within { result ≤ length out.new }
+    ensures out_after { out.new ≡ written (line_text line) used out.old }
+{
+    // None does not come: no line is longer than the room.
+    line.put(out, used).unwrap()
+}
+
+// The line of a refusal.
+pub fn line_of(refusal: Refusal) -> Line
+    ensures { line_text result ≡ refusal_line refusal }
+{
+    Line::Refused {
+        number: refusal.number(),
+        place: refusal.place as u64,
     }
-    used <= size - LINE
 }
 
 // The names line of the listing.
@@ -60,16 +81,9 @@ fn names(run: Run, out: &mut [u8], used: usize) -> Turned
     ensures value { result ≡ record { turn = turn.Line (used + length names_line); run = run } }
     ensures out_after { out.new ≡ written names_line used out.old }
 {
-    match listing::put_names(out, used) {
-        Put::Next(k) => Turned {
-            turn: Turn::Line(k),
-            run,
-        },
-        // This does not come: there is room.
-        Put::Full => Turned {
-            turn: Turn::Full,
-            run,
-        },
+    Turned {
+        turn: Turn::Line(put_line(Line::Names, out, used)),
+        run,
     }
 }
 
@@ -79,43 +93,32 @@ fn refuse(run: Run, out: &mut [u8], used: usize, refusal: Refusal) -> Turned
     ensures value { result ≡ record { turn = turn.End (used + length (refusal_line refusal)); run = run } }
     ensures out_after { out.new ≡ written (refusal_line refusal) used out.old }
 {
-    let place = refusal.place;
-    match listing::put_refused(out, used, refusal.number(), place as u64) {
-        Put::Next(k) => Turned {
-            turn: Turn::End(k),
-            run,
-        },
-        // This does not come: there is room.
-        Put::Full => Turned {
-            turn: Turn::Full,
-            run,
-        },
+    Turned {
+        turn: Turn::End(put_line(line_of(refusal), out, used)),
+        run,
     }
 }
 
-// A record's line, and on with the later run.
-fn accept(later: Run, out: &mut [u8], used: usize, elapsed: i64, low: i64, high: i64) -> Turned
+// A record's line, its elapsed seconds those of the later run, with which it goes on.
+fn accept(later: Run, out: &mut [u8], used: usize, height: Range) -> Turned
     requires { used + line_room ≤ length out.old }
-    ensures value { result ≡ record { turn = turn.Line (used + length (record_line elapsed low high)); run = later } }
-    ensures out_after { out.new ≡ written (record_line elapsed low high) used out.old }
+    ensures value { result ≡ record { turn = turn.Line (used + length (record_line later.state.elapsed height.low height.high)); run = later } }
+    ensures out_after { out.new ≡ written (record_line later.state.elapsed height.low height.high) used out.old }
 {
-    match listing::put_record(out, used, elapsed, low, high) {
-        Put::Next(k) => Turned {
-            turn: Turn::Line(k),
-            run: later,
-        },
-        // This does not come: there is room.
-        Put::Full => Turned {
-            turn: Turn::Full,
-            run: later,
-        },
+    let line = Line::Record {
+        elapsed: later.state.elapsed,
+        low: height.low,
+        high: height.high,
+    };
+    Turned {
+        turn: Turn::Line(put_line(line, out, used)),
+        run: later,
     }
 }
 
-// The record that was read into the first of the numbers, up to the cursor c: its line, or its refusal. The setup buffer has length 0: Level B.
+// The record that was read into the first of the numbers, up to the cursor c: its line, or its refusal. No setup place is lent: Level B.
 fn taken(
-    head: Head,
-    points: &[i64],
+    traverse: Traverse,
     numbers: &[i64],
     run: Run,
     c: Cursor,
@@ -123,105 +126,80 @@ fn taken(
     out: &mut [u8],
     used: usize,
 ) -> Turned
-    requires { (used + line_room ≤ length out.old) × (record_size (count (traverse head points.now)) ≤ length numbers.now) }
-    ensures { left_turn result numbers.now rows.new out.new ≡ printed (taken_said (traverse head points.now) (record_in (count (traverse head points.now)) numbers.now) c.at c.line run.state rows.old) run numbers.now rows.old out.old used }
+    requires { (used + line_room ≤ length out.old) × (record_size (count (traverse_of traverse)) ≤ length numbers.now) }
+    ensures { left_turn result numbers.now rows.new out.new ≡ printed (taken_said (traverse_of traverse.entry) (record_in (count (traverse_of traverse.entry)) numbers.now) c.at c.line run.state rows.old) run numbers.now rows.old out.old used }
 {
-    let n = whole_groups(Station::NUMBERS, points.len());
-    let end = Closing::NUMBERS + Point::NUMBERS * n;
-    let closing = Closing {
-        seconds: numbers[0],
-        tide: numbers[1],
+    let end = Closing::NUMBERS + Point::NUMBERS * count::<Station>(traverse.points);
+    let storm = StormRecord {
+        closing: group_at(numbers, 0),
+        points: &numbers[Closing::NUMBERS..end],
     };
-    let state = run.state;
-    let call = Call {
-        head,
-        closing,
-        state,
-    };
-    let mut places = [0i64; 1];
-    let x = march::take_record(call, points, &numbers[2..end], rows, &mut places[..0]);
-    let answer = x.answer;
-    let state = x.state;
-    match answer {
-        Answer::Refused(refusal) => refuse(run, out, used, refusal),
-        Answer::Accepted { elapsed, low, high } => {
-            let later = Run { cursor: c, state };
-            accept(later, out, used, elapsed, low, high)
-        }
+    let mut state = run.state;
+    match march::take_record(traverse, storm, &mut state, rows, &mut []) {
+        Ok(height) => accept(Run { cursor: c, state }, out, used, height),
+        Err(refusal) => refuse(run, out, used, refusal),
     }
 }
 
 // The names line of the storm, which prints nothing.
-fn start_turn(run: Run, w: &[u8], last: bool, out: &mut [u8], used: usize) -> Turned
+fn start_turn(run: Run, window: Window, out: &mut [u8], used: usize) -> Turned
     requires { used + line_room ≤ length out.old }
-    ensures { left_turn result [] [] out.new ≡ printed (start_turn w.now last) run [] [] out.old used }
+    ensures { left_turn result [] [] out.new ≡ printed (start_turn window.entry.bytes.now window.entry.last) run [] [] out.old used }
 {
-    match reader::storm_start_step(w, last) {
-        StartStep::More => Turned {
+    match reader::storm_start_step(window) {
+        Err(Halt::More) => Turned {
             turn: Turn::More,
             run,
         },
-        StartStep::Answer(answer) => match answer {
-            Lines::Read(c) => {
-                let state = run.state;
-                Turned {
-                    turn: Turn::Line(used),
-                    run: Run { cursor: c, state },
-                }
-            }
-            Lines::Refused(refusal) => refuse(run, out, used, refusal),
+        Err(Halt::Refused(refusal)) => refuse(run, out, used, refusal),
+        Ok(cursor) => Turned {
+            turn: Turn::Line(used),
+            run: Run { cursor, ..run },
         },
     }
 }
 
 // The next record of the storm.
 fn record_turn(
-    head: Head,
-    points: &[i64],
+    traverse: Traverse,
     run: Run,
-    w: &[u8],
-    last: bool,
+    window: Window,
     numbers: &mut [i64],
     rows: &mut [i64],
     out: &mut [u8],
     used: usize,
 ) -> Turned
     requires { used + line_room ≤ length out.old }
-    ensures { left_turn result numbers.new rows.new out.new ≡ printed (record_heard (traverse head points.now) w.now last run.cursor.at run.cursor.line run.state rows.old numbers.old).said run (record_heard (traverse head points.now) w.now last run.cursor.at run.cursor.line run.state rows.old numbers.old).numbers rows.old out.old used }
+    ensures { left_turn result numbers.new rows.new out.new ≡ printed (record_heard (traverse_of traverse.entry) window.entry.bytes.now window.entry.last run.cursor.at run.cursor.line run.state rows.old numbers.old).said run (record_heard (traverse_of traverse.entry) window.entry.bytes.now window.entry.last run.cursor.at run.cursor.line run.state rows.old numbers.old).numbers rows.old out.old used }
 {
-    let cursor = run.cursor;
-    let n = whole_groups(Station::NUMBERS, points.len());
-    match cursor.record_step(w, last, n, numbers) {
-        RecordStep::More => Turned {
+    let n = count::<Station>(traverse.points);
+    match run.cursor.record_step(window, n, numbers) {
+        Err(Halt::More) => Turned {
             turn: Turn::More,
             run,
         },
-        RecordStep::Answer(next) => match next {
-            Next::Read(c) => taken(head, points, numbers, run, c, rows, out, used),
-            Next::End => Turned {
-                turn: Turn::End(used),
-                run,
-            },
-            Next::Refused(refusal) => refuse(run, out, used, refusal),
+        Err(Halt::Refused(refusal)) => refuse(run, out, used, refusal),
+        Ok(None) => Turned {
+            turn: Turn::End(used),
+            run,
         },
+        Ok(Some(c)) => taken(traverse, numbers, run, c, rows, out, used),
     }
 }
 
-// One turn on a window of the storm, which the text may end with: the names line before any line was read, else the next record, which is read
+// One turn on a window of the storm: the names line before any line was read, else the next record, which is read
 // into the lent numbers and marched. Where the output has no room for a line, nothing is done. Open to callers: every argument may be anything
 // whatever.
 pub fn storm_turn(
-    head: Head,
-    points: &[i64],
+    traverse: Traverse,
     run: Run,
-    w: &[u8],
-    last: bool,
+    window: Window,
     numbers: &mut [i64],
     rows: &mut [i64],
     out: &mut [u8],
     used: usize,
 ) -> Turned
-    ensures { left_turn result numbers.new rows.new out.new ≡ turn_left (turn_heard (traverse head points.now) w.now last run.cursor.at run.cursor.line run.state rows.old numbers.old) run numbers.old rows.old out.old used }
+    ensures { left_turn result numbers.new rows.new out.new ≡ turn_left (turn_heard (traverse_of traverse.entry) window.entry.bytes.now window.entry.last run.cursor.at run.cursor.line run.state rows.old numbers.old) run numbers.old rows.old out.old used }
 {
     if !has_line_room(out.len(), used) {
         return Turned {
@@ -229,23 +207,19 @@ pub fn storm_turn(
             run,
         };
     }
-    let cursor = run.cursor;
-    if cursor.line == 0 {
-        return start_turn(run, w, last, out, used);
+    if run.cursor.line == 0 {
+        return start_turn(run, window, out, used);
     }
-    record_turn(head, points, run, w, last, numbers, rows, out, used)
+    record_turn(traverse, run, window, numbers, rows, out, used)
 }
 
 // Opens a traverse that was read: the names line and a fresh run, or the refusal. Open to callers: any traverse whatever.
-pub fn begin(head: Head, points: &[i64], out: &mut [u8], used: usize) -> Turned
-    ensures { left_turn result [] [] out.new ≡ turn_left (record { said = begin_of (traverse head points.now) []; numbers = [] }) fresh_run [] [] out.old used }
+pub fn begin(traverse: Traverse, out: &mut [u8], used: usize) -> Turned
+    ensures { left_turn result [] [] out.new ≡ turn_left (record { said = begin_of (traverse_of traverse.entry) []; numbers = [] }) fresh_run [] [] out.old used }
 {
-    let opened = march::open_traverse(head, points);
-    let check = opened.check;
-    let state = opened.state;
     let run = Run {
         cursor: Cursor { at: 0, line: 0 },
-        state,
+        state: State::fresh(),
     };
     if !has_line_room(out.len(), used) {
         return Turned {
@@ -253,8 +227,8 @@ pub fn begin(head: Head, points: &[i64], out: &mut [u8], used: usize) -> Turned
             run,
         };
     }
-    match check {
-        Check::Pass => names(run, out, used),
-        Check::Fail(refusal) => refuse(run, out, used, refusal),
+    match march::open_traverse(traverse) {
+        Ok(_) => names(run, out, used),
+        Err(refusal) => refuse(run, out, used, refusal),
     }
 }

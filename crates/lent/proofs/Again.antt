@@ -9,6 +9,7 @@ use lib.Dec.{ltb, eqb}
 use lib.ListN.{length}
 use lib.Seq.{get_or-take}
 use lib.IntN.{ℤ, pos}
+use Rattle.std.specs.Prelude.{Option, Some, None, Result, Ok, Err}
 use Rattle.records.specs.declared.Refusal.{Refusal}
 use Rattle.records.specs.declared.Kind.TheVariants.{Names, Ended, Points}
 use Rattle.records.specs.Refusals.{number_of, refusal}
@@ -16,15 +17,10 @@ use Rattle.records.specs.Groups.{at, wholes}
 use Rattle.records.specs.Limits.{count_ok, most_points}
 use Rattle.records.specs.Shapes.{Traverse, traverse, count}
 use Rattle.records.proofs.RefusalLaws.{number-above}
-use Rattle.records.specs.declared.Check.{Check}
-use Rattle.records.specs.declared.Check.TheVariants.{Pass, Fail}
+use Rattle.records.specs.CheckOrder.{Check}
 use Rattle.march.specs.Answers.{opened, told_open}
 use Rattle.march.specs.Checks.{traverse_check, fresh_state, open_of}
 use Rattle.reader.specs.declared.Cursor.{Cursor}
-use Rattle.reader.specs.declared.Lines.{Lines}
-use Rattle.reader.specs.declared.Lines.TheVariants as lines
-use Rattle.reader.specs.declared.storm.Next.{Next}
-use Rattle.reader.specs.declared.storm.Next.TheVariants as next
 use Rattle.reader.specs.Text.{more}
 use Rattle.reader.specs.Lines.{Outcome, read, refused, found, Leaves, Line, full, bad, values_at, lines_read, after, lines_at, spells, names_at}
 use Rattle.reader.specs.Traverse.{no_points, traverse_left, traverse_of}
@@ -61,8 +57,8 @@ open-again head points x = by (traverse_check most_points t) (x.kept ∙ rw (x.s
     t = traverse head points
 
     by : (k : Check) → x.left ≡ after_open (told_open k) fresh_state x.state → (told_open k ≡ opened) × (x.left.state ≡ state_numbers fresh_state)
-    by Pass e = (refl, ap (λ (z : LeftOpen). z.state) e)
-    by (Fail r) e = absurd (omega (arith, number-above r.kind, x.accepted, ap (λ (z : LeftOpen). z.number) e))
+    by (Ok u) e = (refl, ap (λ (z : LeftOpen). z.state) e)
+    by (Err r) e = absurd (omega (arith, number-above r.kind, x.accepted, ap (λ (z : LeftOpen). z.number) e))
 
 -- ---- a traverse text
 
@@ -103,13 +99,13 @@ traverse-again text x = record { told = traverse-told text x; accepted = told-ac
 
 -- ---- lines are no more than bytes
 
-abbrev LinesTo : ℕ → Lines → Type 0
-LinesTo b (lines.Read c) = c.line ≤ b
-LinesTo b (lines.Refused r) = Unit {0}
+abbrev LinesTo : ℕ → Result Cursor Refusal → Type 0
+LinesTo b (Ok c) = c.line ≤ b
+LinesTo b (Err r) = Unit {0}
 
-lines-fewer : (b d : ℕ) (r : Lines) → b ≤ d → LinesTo b r → LinesTo d r
-lines-fewer b d (lines.Read c) h l = omega arith
-lines-fewer b d (lines.Refused r) h l = tt
+lines-fewer : (b d : ℕ) (r : Result Cursor Refusal) → b ≤ d → LinesTo b r → LinesTo d r
+lines-fewer b d (Ok c) h l = omega arith
+lines-fewer b d (Err r) h l = tt
 
 lines-most : (s : List ℕ) (width shared n i place line : ℕ) (kept : List ℤ) → LinesTo (line + n) (lines_at s width shared n i place line kept).answer
 unfolding lines_at
@@ -118,7 +114,7 @@ lines-most s width shared (suc n) i place line kept =
     go (ltb place (length s)) (values_at s shared i width 0 place kept true) (λ a o. lines-most s width shared n (i + 1) a (more line) o)
   where
     go : (b : Bool) (l : Line) → ((a : ℕ) (o : List ℤ) → LinesTo (more line + n) (lines_at s width shared n (i + 1) a (more line) o).answer)
-        → LinesTo (line + suc n) (cond b (after l (more line) (λ a o. lines_at s width shared n (i + 1) a (more line) o)) (lines_read (lines.Refused (refusal Ended line)) kept)).answer
+        → LinesTo (line + suc n) (cond b (after l (more line) (λ a o. lines_at s width shared n (i + 1) a (more line) o)) (lines_read (Err (refusal Ended line)) kept)).answer
     go true (full a o true) r = lines-fewer (more line + n) (line + suc n) (lines_at s width shared n (i + 1) a (more line) o).answer (omega (arith, more-most line)) (r a o)
     go true (full a o false) r = tt
     go true (bad o) r = tt
@@ -143,40 +139,40 @@ next-leaves s n c h = go (count_ok most_points n) (ltb c.at (length s)) (record_
     rest true = tt
     rest false = tt
 
-    go : (b e : Bool) (r : Lines) → PastLines (c.at + n) r → LinesTo (c.line + n) r
+    go : (b e : Bool) (r : Result Cursor Refusal) → PastLines (c.at + n) r → LinesTo (c.line + n) r
         → Read-on (c.at + 1) (length s) (cond b (cond e (found r (one (record_of (record_lines s n c.at c.line).kept))) (cond (ltb 1 c.line) (read none c.at c.line) (refused (refusal Ended c.line)))) (refused (refusal Points n)))
         → LeavesOn s (cond b (cond e (found r (one (record_of (record_lines s n c.at c.line).kept))) (cond (ltb 1 c.line) (read none c.at c.line) (refused (refusal Ended c.line)))) (refused (refusal Points n)))
-    go true true (lines.Read d) p l q = (record { place = q.1; lines = omega (arith, h.lines) }, omega arith)
-    go true true (lines.Refused t) p l q = tt
+    go true true (Ok d) p l q = (record { place = q.1; lines = omega (arith, h.lines) }, omega arith)
+    go true true (Err t) p l q = tt
     go true false r p l q = rest (ltb 1 c.line)
     go false e r p l q = tt
 
 -- where the names line ends, or the cursor past it
-abbrev StartOn : List ℕ → Lines → Type 0
-StartOn s (lines.Read c) = OnPast s c
-StartOn s (lines.Refused r) = Unit {0}
+abbrev StartOn : List ℕ → Result Cursor Refusal → Type 0
+StartOn s (Ok c) = OnPast s c
+StartOn s (Err r) = Unit {0}
 
 names-on : (s : List ℕ) → StartOn s (storm_start s)
 unfolding storm_start names_at
 names-on s = go (spells s 0 storm_names) (start-stays s)
   where
-    go : (b : Bool) → Stays (length s) (cond b (lines.Read (record { at = 0 + length storm_names; line = more 0 })) (lines.Refused (refusal Names (more 0))))
-        → StartOn s (cond b (lines.Read (record { at = 0 + length storm_names; line = more 0 })) (lines.Refused (refusal Names (more 0))))
+    go : (b : Bool) → Stays (length s) (cond b (Ok (record { at = 0 + length storm_names; line = more 0 })) (Err (refusal Names (more 0))))
+        → StartOn s (cond b (Ok (record { at = 0 + length storm_names; line = more 0 })) (Err (refusal Names (more 0))))
     go true h = (record { place = h; lines = omega (arith, more-most 0) }, omega arith)
     go false h = tt
 
-start-past : (s : List ℕ) (c : Cursor) → 0 < c.at → start_of s c ≡ lines.Read c
+start-past : (s : List ℕ) (c : Cursor) → 0 < c.at → start_of s c ≡ Ok c
 unfolding start_of
 start-past s c h = by (eqb c.at 0) refl
   where
-    by : (b : Bool) → eqb c.at 0 ≡ b → cond (b && eqb c.line 0) (storm_start s) (lines.Read c) ≡ lines.Read c
+    by : (b : Bool) → eqb c.at 0 ≡ b → cond (b && eqb c.line 0) (storm_start s) (Ok c) ≡ Ok c
     by true e = absurd (omega (arith, eqb-true c.at 0 e))
     by false e = refl
 
 start-on : (s : List ℕ) (c : Cursor) → On s c → StartOn s (start_of s c)
 start-on s c h = by (eqb c.at 0) refl
   where
-    nought : (b : Bool) → eqb c.line 0 ≡ b → c.line ≡ 0 → StartOn s (cond b (storm_start s) (lines.Read c))
+    nought : (b : Bool) → eqb c.line 0 ≡ b → c.line ≡ 0 → StartOn s (cond b (storm_start s) (Ok c))
     nought true e z = names-on s
     nought false e z = absurd (eqb-false c.line 0 e z)
 
@@ -204,17 +200,17 @@ record-left : (n : ℕ) (c : Cursor) (l : List ℤ) → record_left n (kept_reco
 record-left n c l = rw (get_or-take 2 l 0 (pos 0) (omega arith), get_or-take 2 l 1 (pos 0) (omega arith))
 
 module _ (text : List ℕ) (n : ℕ) (cursor values storm : List ℤ) (x : LeftRecord) where
-  after-told : (c : Cursor) → On text c → x ≡ after_start (lines.Read c) text n cursor values storm → RecordTold text n x (next_at text n c.at c.line)
+  after-told : (c : Cursor) → On text c → x ≡ after_start (Ok c) text n cursor values storm → RecordTold text n x (next_at text n c.at c.line)
   unfolding next_of
   after-told c h e = by (next_at text n c.at c.line) refl (next-leaves text n c h)
     where
-      left : Leaves Next
+      left : Leaves (Result (Option Cursor) Refusal)
       left = next_left text n c.at c.line no_numbers
 
       by : (o : Outcome Further) → next_at text n c.at c.line ≡ o → LeavesOn text o → RecordTold text n x o
       by (read (one r) place line) p on =
           let d : Cursor = record { at = place; line = line } in
-          let q : left.answer ≡ next.Read d = next-answer text n c.at c.line ∙ rw p in
+          let q : left.answer ≡ Ok (Some d) = next-answer text n c.at c.line ∙ rw p in
           let k : read (one r) place line ≡ read (one (record_in n left.numbers)) place line = sym p ∙ (next-has-record text n c.at c.line no_numbers d q).1 in
           let same : record_in n left.numbers ≡ r = cc in
           let w : x ≡ kept_record d left.numbers = e ∙ rw q in (
@@ -225,17 +221,17 @@ module _ (text : List ℕ) (n : ℕ) (cursor values storm : List ℤ) (x : LeftR
             on.0,
           )
       by (read none place line) p on =
-          let q : left.answer ≡ next.End = next-answer text n c.at c.line ∙ rw p in
+          let q : left.answer ≡ Ok None = next-answer text n c.at c.line ∙ rw p in
           let w : x ≡ left_record 0 cursor values storm (answer_numbers (pos 0) (pos 0) (pos 0)) = e ∙ rw q in
           (ap (λ (z : LeftRecord). z.number) w, ap (λ (z : LeftRecord). z.answer) w)
       by (refused r) p on =
-          let q : left.answer ≡ next.Refused r = next-answer text n c.at c.line ∙ rw p in
+          let q : left.answer ≡ Err r = next-answer text n c.at c.line ∙ rw p in
           let w : x ≡ left_record (number_of r.kind) cursor values storm (refused_answer r.place) = e ∙ rw q in
           (ap (λ (z : LeftRecord). z.number) w, ap (λ (z : LeftRecord). z.answer) w)
 
-  started-told : (l : Lines) → StartOn text l → x ≡ after_start l text n cursor values storm → RecordTold text n x (next_from text n l)
-  started-told (lines.Read c) on e = after-told c on.0 e
-  started-told (lines.Refused r) on e = (ap (λ (z : LeftRecord). z.number) e, ap (λ (z : LeftRecord). z.answer) e)
+  started-told : (l : Result Cursor Refusal) → StartOn text l → x ≡ after_start l text n cursor values storm → RecordTold text n x (next_from text n l)
+  started-told (Ok c) on e = after-told c on.0 e
+  started-told (Err r) on e = (ap (λ (z : LeftRecord). z.number) e, ap (λ (z : LeftRecord). z.answer) e)
 
 pub record-again : RecordAgain
 unfolding read_record_call record_buffers
@@ -287,7 +283,7 @@ storm-again text short n calls all = by (storm_start text) refl (names-on text)
     first : (c : ReadCall) → ReadKept text n (cursor_numbers origin) c → RecordTold text n c.left (next_from text n (storm_start text))
     first c kept = unfold start_of in record-again text short n origin (record { place = omega arith; lines = omega arith }) c.values c.storm c.answer c.left kept.0 kept.1
 
-    by : (l : Lines) → storm_start text ≡ l → StartOn text l → StormRead text n no_cursor calls (storm_from l (storm_rest text n))
-    by (lines.Read d) e on =
+    by : (l : Result Cursor Refusal) → storm_start text ≡ l → StartOn text l → StormRead text n no_cursor calls (storm_from l (storm_rest text n))
+    by (Ok d) e on =
         rw (storm-once text n d.at d.line on.0.place) (all_from text short n calls no_cursor (next_at text n d.at d.line) (next-leaves text n d on.0) (rw e at first) all)
-    by (lines.Refused r) e on = all_from text short n calls no_cursor (refused r) tt (rw e at first) all
+    by (Err r) e on = all_from text short n calls no_cursor (refused r) tt (rw e at first) all

@@ -1,4 +1,4 @@
--- Turning a card deck into a traverse's text: what the function gave is what the definition says, and the statement of `specs/Decks.antt`. Assumes nothing.
+-- Turning a card deck into a traverse's text: the text that it wrote, read, the statement of `specs/Decks.antt`. Assumes nothing.
 use mathlib.Core.Path.{◌≡◌, refl, sym, ap, subst, ◌∙◌}
 use mathlib.Core.Bool.{Bool, true, false, cond}
 use mathlib.Core.List.{List, [], ◌∷◌}
@@ -6,53 +6,35 @@ use native.Mathlib.Omega.{arith}
 use Prim.Native.Nat.{ℕ, ◌*◌, ◌<◌, ◌^◌}
 use lib.Dec.{eqb}
 use lib.ListN.{length, take}
-use lib.IntN.{ℤ, pos}
+use lib.IntN.{ℤ}
+use Rattle.std.specs.Prelude.{Result, Ok, Err}
 use Rattle.records.specs.declared.Head.{Head}
 use Rattle.records.specs.declared.Refusal.{Refusal}
 use Rattle.records.specs.Groups.{station_count}
-use Rattle.records.specs.Refusals.{number_of}
 use Rattle.records.specs.Shapes.{Traverse}
 use Rattle.records.proofs.GroupLaws.{wholes-times}
 use Rattle.records.proofs.RefusalLaws.{number-above}
-use Rattle.deck.specs.declared.Converted.{Converted}
-use Rattle.deck.specs.declared.Converted.TheVariants as code
-use Rattle.deck.specs.Deck.{LeftDeck, left_deck, convert_of}
+use Rattle.deck.specs.Deck.{LeftDeck, convert_of}
 use Rattle.deck.specs.Reading.{paired, ReadBack}
 use Rattle.deck.proofs.ReadingLaws.{wrote, deck-is-read}
-use Rattle.lent.specs.Numbers.{place_number, answer_numbers, refused_answer, wrong_buffer}
+use Rattle.lent.specs.Numbers.{wrong_buffer}
 use Rattle.lent.specs.Texts.{lent_place}
 use Rattle.lent.specs.Again.{TraverseReading}
 use Rattle.lent.specs.Decks.{LeftText, left_text, after_converted, deck_with, deck_call, text_written, DeckTold, DeckThenTraverse}
 use Rattle.lent.proofs.Again.{whole-place, traverse-again}
 
--- ---- what the code answers
-
-module _ (x : LeftDeck) (text : List ℕ) (answer : List ℤ) where
-  pub deck-wrong : eqb (length answer) 3 ≡ false → left_text wrong_buffer text answer ≡ deck_with x text answer
-  deck-wrong b = rw b
-
-  module _ (b : eqb (length answer) 3 ≡ true) (m : Converted) (text' : List ℕ) (h : left_deck m text' ≡ x) where
-    pub deck-refused : (number : ℕ) (answer' : List ℤ) (refusal : Refusal) → m ≡ code.Refused refusal → number ≡ number_of refusal.kind → answer' ≡ refused_answer refusal.place →
-        left_text number text' answer' ≡ deck_with x text answer
-    deck-refused number answer' refusal e n a = rw (b, ← h, e, n, a)
-
-    pub deck-written : (answer' : List ℤ) (n : ℕ) → m ≡ code.Text n → answer' ≡ answer_numbers (pos 0) (place_number n) (pos 0) → left_text 0 text' answer' ≡ deck_with x text answer
-    deck-written answer' n e a = rw (b, ← h, e, a)
-
--- ---- the text that it wrote, read
-
 -- so many bytes were written, to the front of the room
 record WroteText (x : LeftDeck) (left : LeftText) : Type 0 where
   bytes : ℕ
-  was : x.answer ≡ code.Text bytes
-  left-is : left ≡ after_converted (code.Text bytes) x.text
+  was : x.answer ≡ Ok bytes
+  left-is : left ≡ after_converted (Ok bytes) x.text
 
 wrote-text : (x : LeftDeck) (text : List ℕ) (answer : List ℤ) (left : LeftText) → left ≡ deck_with x text answer → left.number ≡ 0 → WroteText x left
 wrote-text x text answer left k z = by (eqb (length answer) 3) x.answer refl k
   where
-    by : (t : Bool) (c : Converted) → x.answer ≡ c → left ≡ cond t (after_converted c x.text) (left_text wrong_buffer text answer) → WroteText x left
-    by true (code.Text n) e k = record { bytes = n; was = e; left-is = k }
-    by true (code.Refused refusal) e k = absurd (omega (arith, number-above refusal.kind, z, ap (λ (l : LeftText). l.number) k))
+    by : (t : Bool) (c : Result ℕ Refusal) → x.answer ≡ c → left ≡ cond t (after_converted c x.text) (left_text wrong_buffer text answer) → WroteText x left
+    by true (Ok n) e k = record { bytes = n; was = e; left-is = k }
+    by true (Err refusal) e k = absurd (omega (arith, number-above refusal.kind, z, ap (λ (l : LeftText). l.number) k))
     by false c e k = absurd (omega (arith, z, ap (λ (l : LeftText). l.number) k))
 
 -- two numbers a point

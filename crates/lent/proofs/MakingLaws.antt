@@ -1,4 +1,4 @@
--- Making a storm record: what the function gave is what the definition says, and the statement of `specs/Making.antt`. Assumes nothing.
+-- Making a storm record: what it made can be taken, the statement of `specs/Making.antt`. Assumes nothing.
 use mathlib.Core.Path.{◌≡◌, refl, sym, ap, subst, ◌∙◌}
 use mathlib.Core.Bool.{Bool, true, false, cond}
 use mathlib.Core.List.{List, ◌++◌}
@@ -8,46 +8,25 @@ use lib.Dec.{eqb}
 use lib.ListN.{length, take, drop}
 use lib.Seq.{take_at}
 use lib.IntN.{ℤ, pos}
-use Rattle.records.specs.declared.Check.{Check}
-use Rattle.records.specs.declared.Check.TheVariants.{Pass, Fail}
-use Rattle.records.specs.declared.Closing.{Closing}
 use Rattle.records.specs.declared.Kind.TheVariants.{RecordValue, CalmAngle}
-use Rattle.records.specs.declared.Refusal.{Refusal}
-use Rattle.records.specs.CheckOrder.{need, first_of}
+use Rattle.std.specs.Prelude.{Ok, Err}
+use Rattle.records.specs.CheckOrder.{Check, Pass, need, first_of}
 use Rattle.records.specs.Groups.{wholes, point_at}
 use Rattle.records.specs.Limits.{point_ok, calm_ok}
-use Rattle.records.specs.Refusals.{number_of, refusal}
+use Rattle.records.specs.Refusals.{refusal}
 use Rattle.records.specs.Shapes.{storm}
 use Rattle.records.proofs.CheckOrderLaws.{each-pass, then-pass}
 use Rattle.records.proofs.GroupLaws.{wholes-times}
 use Rattle.records.proofs.LimitLaws.{Between}
 use Rattle.records.proofs.RefusalLaws.{number-above}
-use Rattle.hurricane.specs.declared.Made.{Made}
-use Rattle.hurricane.specs.declared.Made.TheVariants as code
 use Rattle.hurricane.specs.Factor.{factor_entry}
 use Rattle.hurricane.specs.Groups.{site_count}
-use Rattle.hurricane.specs.Make.{Asked, asked, LeftMade, check_of, made_numbers, after_check, make_of, left_by}
+use Rattle.hurricane.specs.Make.{Asked, asked, check_of, made_numbers, after_check, make_of}
 use Rattle.hurricane.proofs.FactorTable.{entry-rule}
 use Rattle.hurricane.proofs.MakeLaws.{point-in, calm-in, made-length, made-point}
 use Rattle.march.specs.Checks.{times_ok, points_ok, calms_ok, record_checks}
-use Rattle.lent.specs.Numbers.{answer_numbers, refused_answer, wrong_buffer}
+use Rattle.lent.specs.Numbers.{answer_numbers, wrong_buffer}
 use Rattle.lent.specs.Making.{LeftMake, left_make, after_made, make_with, make_call, Takeable, MadeTakeable}
-
--- ---- what the code answers
-
-module _ (x : LeftMade) (room answer : List ℤ) where
-  pub make-wrong : eqb (length answer) 3 ≡ false → left_make wrong_buffer room answer ≡ make_with x room answer
-  make-wrong b = rw b
-
-  module _ (b : eqb (length answer) 3 ≡ true) (m : Made) (room' : List ℤ) (h : left_by m room' ≡ x) where
-    pub make-refused : (number : ℕ) (answer' : List ℤ) (refusal : Refusal) → m ≡ code.Refused refusal → number ≡ number_of refusal.kind → answer' ≡ refused_answer refusal.place →
-        left_make number room' answer' ≡ make_with x room answer
-    make-refused number answer' refusal e n a = rw (b, ← h, e, n, a)
-
-    pub make-accepted : (answer' : List ℤ) (closing : Closing) → m ≡ code.Made closing → answer' ≡ answer_numbers (pos 0) closing.seconds closing.tide → left_make 0 room' answer' ≡ make_with x room answer
-    make-accepted answer' closing e a = rw (b, ← h, e, a)
-
--- ---- what it made can be taken
 
 abbrev left_after : Bool → Check → Asked → List ℤ → LeftMake
 left_after t c a answer = cond t (after_made (after_check c a).answer (after_check c a).room) (left_make wrong_buffer a.room answer)
@@ -63,8 +42,8 @@ unfolding make_of
 made-it a answer z = by (eqb (length answer) 3) (check_of a) refl z
   where
     by : (t : Bool) (c : Check) → check_of a ≡ c → (left_after t c a answer).number ≡ 0 → MadeIt a (left_after t c a answer)
-    by true Pass e z = record { all = e; room-is = refl; answer-is = refl }
-    by true (Fail refusal) e z = let n = number-above refusal.kind in absurd (omega arith)
+    by true (Ok u) e z = record { all = e; room-is = refl; answer-is = refl }
+    by true (Err refusal) e z = let n = number-above refusal.kind in absurd (omega arith)
     by false c e z = absurd (omega arith)
 
 module _ (a : Asked) (limits : (m : ℕ) → m < 1001 → Between (pos 0) (pos 10000) (a.factor m)) (left : LeftMake) (v : MadeIt a left) where

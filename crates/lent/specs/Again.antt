@@ -1,7 +1,7 @@
 -- The calls one after the other: what opening writes is the march's own state, what reading texts writes is what the texts have (`traverse_of`,
 -- `storm_of`), and the next call takes it. A call is spoken of by its promise alone: `Opens`, `ReadsTraverse`, `ReadsRecord`. Statements; the proofs are
 -- in `proofs/Again.antt`.
-use Rattle.std.specs.Prelude.{◌≡◌, List, [], ◌∷◌, map, ℕ, ◌*◌, ◌<◌, ◌≤◌, ◌^◌, length, take, ℤ, pos}
+use Rattle.std.specs.Prelude.{◌≡◌, List, [], ◌∷◌, map, ℕ, ◌*◌, ◌<◌, ◌≤◌, ◌^◌, length, take, ℤ, pos, Result, Ok, Err}
 use Rattle.records.specs.declared.Head.{Head}
 use Rattle.records.specs.declared.Refusal.{Refusal}
 use Rattle.records.specs.Refusals.{number_of}
@@ -11,8 +11,6 @@ use Rattle.records.specs.Shapes.{Traverse, traverse, count, Record, storm}
 use Rattle.march.specs.Answers.{opened}
 use Rattle.march.specs.Checks.{open_of}
 use Rattle.reader.specs.declared.Cursor.{Cursor}
-use Rattle.reader.specs.declared.Lines.{Lines}
-use Rattle.reader.specs.declared.Lines.TheVariants as lines
 use Rattle.reader.specs.Lines.{Outcome, read, refused}
 use Rattle.reader.specs.Traverse.{traverse_of}
 use Rattle.reader.specs.Storm.{Further, one, none, next_at, Stop, ended, stopped, paused, unread, Storm, storm_of}
@@ -103,9 +101,9 @@ RecordTold text n x (read none place line) = (x.number ≡ 0) × (x.answer ≡ a
 RecordTold text n x (refused r) = RefusalTold x.number x.answer r
 
 -- what the text has next, once its names line was read
-abbrev pub next_from : List ℕ → ℕ → Lines → Outcome Further
-next_from text n (lines.Read c) = next_at text n c.at c.line
-next_from text n (lines.Refused r) = refused r
+abbrev pub next_from : List ℕ → ℕ → Result Cursor Refusal → Outcome Further
+next_from text n (Ok c) = next_at text n c.at c.line
+next_from text n (Err r) = refused r
 
 abbrev pub RecordAgain : Type 0
 RecordAgain =

@@ -3,15 +3,22 @@
 -- both of it.
 use Rattle.std.specs.Prelude.{◌≡◌, cond, ◌&&◌, List, ◌++◌, ℕ, ◌*◌, leb, length, take, drop, ℤ, pos}
 use Rattle.records.specs.Limits.{most_points}
-use Rattle.records.specs.Shapes.{Traverse, traverse}
+use Rattle.records.specs.Shapes.{Traverse, traverse, Record, storm}
 use Rattle.march.specs.declared.State.{State}
-use Rattle.march.specs.declared.Call.{Call}
 use Rattle.march.specs.Answers.{Told, accepted, refused, ToldOpen, opened, not_opened}
 use Rattle.march.specs.Given.{given}
 use Rattle.march.specs.Checks.{open_of}
 use Rattle.march.specs.Take.{take_of}
 use Rattle.march.specs.Take as march
 use Rattle.lent.specs.Numbers.{state_of, state_numbers, answer_numbers, refused_answer, buffers_ok, wrong_buffer}
+
+-- ---- what the march is given of the numbers lent
+
+abbrev pub traverse_given : ℤ → ℤ → ℤ → List ℤ → Traverse
+traverse_given latitude friction initial points = traverse (record { latitude = latitude; friction = friction; initial = initial }) points
+
+abbrev pub storm_given : ℤ → ℤ → List ℤ → Record
+storm_given seconds tide points = storm (record { seconds = seconds; tide = tide }) points
 
 -- ---- opening a traverse
 
@@ -33,7 +40,7 @@ open_with t state answer =
     cond (buffers_ok (length state) (length answer)) (after_open (open_of most_points t).answer (open_of most_points t).state state) (left_open wrong_buffer state answer)
 
 unfoldable pub open_call : ℤ → ℤ → ℤ → List ℤ → List ℤ → List ℤ → LeftOpen
-open_call latitude friction initial points = open_with (traverse (record { latitude = latitude; friction = friction; initial = initial }) points)
+open_call latitude friction initial points = open_with (traverse_given latitude friction initial points)
 
 -- the promise of the call, on these and with this left
 abbrev pub Opens : ℤ → ℤ → ℤ → List ℤ → List ℤ → List ℤ → LeftOpen → Type 0
@@ -41,16 +48,9 @@ Opens latitude friction initial points state answer left = left ≡ open_call la
 
 -- ---- taking a record
 
-abbrev pub call_of : ℤ → ℤ → ℤ → ℤ → ℤ → List ℤ → Call
-call_of latitude friction initial seconds tide state = record {
-  head = record { latitude = latitude; friction = friction; initial = initial };
-  closing = record { seconds = seconds; tide = tide };
-  state = state_of state;
-}
-
 -- what the march makes of the numbers lent, with these for the rows
-abbrev pub march_left : Call → List ℤ → List ℤ → List ℤ → List ℤ → march.Left
-march_left call points storm rows setup = take_of (given most_points call points storm rows setup)
+abbrev pub march_left : Traverse → Record → State → List ℤ → List ℤ → march.Left
+march_left t r st rows setup = take_of (given most_points t r st rows setup)
 
 -- how many of so many numbers n rows are, where so many may be lent and are there
 unfoldable pub rows_size : ℕ → ℕ → ℕ
@@ -76,9 +76,9 @@ abbrev pub numbers_with : march.Left → ℕ → List ℤ → List ℤ → List 
 numbers_with x size state numbers setup answer =
     cond (buffers_ok (length state) (length answer)) (after_numbers x.answer x size state numbers) (left_numbers wrong_buffer state numbers setup answer)
 
-abbrev pub numbers_left : Call → List ℤ → List ℤ → ℕ → List ℤ → List ℤ → List ℤ → List ℤ → LeftNumbers
-numbers_left call points storm size state numbers setup answer = numbers_with (march_left call points storm (take size numbers) setup) size state numbers setup answer
+abbrev pub numbers_left : Traverse → Record → ℕ → List ℤ → List ℤ → List ℤ → List ℤ → LeftNumbers
+numbers_left t r size state numbers setup answer = numbers_with (march_left t r (state_of state) (take size numbers) setup) size state numbers setup answer
 
 unfoldable pub take_numbers : ℤ → ℤ → ℤ → List ℤ → ℤ → ℤ → List ℤ → List ℤ → ℕ → List ℤ → List ℤ → List ℤ → LeftNumbers
 take_numbers latitude friction initial points seconds tide storm state n numbers setup answer =
-    numbers_left (call_of latitude friction initial seconds tide state) points storm (rows_size n (length numbers)) state numbers setup answer
+    numbers_left (traverse_given latitude friction initial points) (storm_given seconds tide storm) (rows_size n (length numbers)) state numbers setup answer

@@ -1,14 +1,13 @@
 -- The call that turns an old card deck into the text of `traverse.txt`, whatever it is given: what is returned, and everything that was lent. It is
 -- `deck`'s own definition (`convert_of`), with numbers for its values. `ReadsDeck` is the promise itself. And the statement that reading that text gives
 -- just the deck's points and the given values, or refuses the count of its points.
-use Rattle.std.specs.Prelude.{◌≡◌, true, false, cond, List, ℕ, ◌<◌, ◌^◌, eqb, length, take, ℤ, pos}
+use Rattle.std.specs.Prelude.{◌≡◌, true, false, cond, List, ℕ, ◌<◌, ◌^◌, eqb, length, take, ℤ, pos, Result, Ok, Err}
 use Rattle.records.specs.declared.Head.{Head}
 use Rattle.records.specs.declared.Kind.TheVariants.{Points}
+use Rattle.records.specs.declared.Refusal.{Refusal}
 use Rattle.records.specs.Groups.{at}
 use Rattle.records.specs.Limits.{count_ok, most_points}
 use Rattle.records.specs.Refusals.{number_of, refusal}
-use Rattle.deck.specs.declared.Converted.{Converted}
-use Rattle.deck.specs.declared.Converted.TheVariants.{Text, Refused}
 use Rattle.deck.specs.Cards.{cards, deck_of}
 use Rattle.deck.specs.Deck.{LeftDeck, convert_of}
 use Rattle.deck.specs.Reading.{paired}
@@ -25,9 +24,9 @@ abbrev pub left_text : ℕ → List ℕ → List ℤ → LeftText
 left_text number text answer = record { number = number; text = text; answer = answer }
 
 -- the text is `convert_of`'s in either case; the answer has how many bytes were written, or the place
-abbrev pub after_converted : Converted → List ℕ → LeftText
-after_converted (Text n) text = left_text 0 text (answer_numbers (pos 0) (place_number n) (pos 0))
-after_converted (Refused refusal) text = left_text (number_of refusal.kind) text (refused_answer refusal.place)
+abbrev pub after_converted : Result ℕ Refusal → List ℕ → LeftText
+after_converted (Ok n) text = left_text 0 text (answer_numbers (pos 0) (place_number n) (pos 0))
+after_converted (Err refusal) text = left_text (number_of refusal.kind) text (refused_answer refusal.place)
 
 abbrev pub deck_with : LeftDeck → List ℕ → List ℤ → LeftText
 deck_with x text answer = cond (eqb (length answer) 3) (after_converted x.answer x.text) (left_text wrong_buffer text answer)

@@ -1,6 +1,8 @@
 -- What a caller's numbers stand for beside points and rows, and what a call leaves in them.
-use Rattle.std.specs.Prelude.{Bool, cond, ◌&&◌, ◌||◌, List, [], ◌∷◌, ℕ, eqb, leb, ℤ, pos}
+use Rattle.std.specs.Prelude.{Bool, cond, ◌&&◌, ◌||◌, List, [], ◌∷◌, ℕ, eqb, leb, ℤ, pos, Result, Ok, Err}
 use Rattle.std.specs.Int.Signed.{lt_z}
+use Rattle.records.specs.declared.Refusal.{Refusal}
+use Rattle.records.specs.Refusals.{number_of}
 use Rattle.records.specs.Groups.{at}
 use Rattle.march.specs.declared.State.{State}
 
@@ -30,6 +32,15 @@ answer_numbers place low high = place ∷ low ∷ high ∷ []
 -- that of a refused call: the place, and no height
 abbrev pub refused_answer : ℕ → List ℤ
 refused_answer place = answer_numbers (place_number place) (pos 0) (pos 0)
+
+-- what a call that found the answer's numbers, or a refusal, returns and answers
+abbrev pub told_number : Result (List ℤ) Refusal → ℕ
+told_number (Ok numbers) = 0
+told_number (Err refusal) = number_of refusal.kind
+
+abbrev pub told_answer : Result (List ℤ) Refusal → List ℤ
+told_answer (Ok numbers) = numbers
+told_answer (Err refusal) = refused_answer refusal.place
 
 -- ---- `state` has 2 numbers, `answer` 3
 

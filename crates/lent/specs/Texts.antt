@@ -1,18 +1,13 @@
 -- The calls that read texts, whatever they are given: what is returned, and everything that was lent. Each is the reader's own definition
 -- (`traverse_left`, `storm_start`, `next_left`), with numbers for its values. `ReadsTraverse` and `ReadsRecord` are the promises themselves.
-use Rattle.std.specs.Prelude.{◌≡◌, Bool, cond, ◌&&◌, List, [], ◌∷◌, ℕ, eqb, length, take, drop, replicate, ℤ, pos, negsuc}
+use Rattle.std.specs.Prelude.{◌≡◌, Bool, cond, ◌&&◌, List, [], ◌∷◌, ℕ, eqb, length, take, drop, replicate, ℤ, pos, negsuc, Option, Some, None, Result, Ok, Err}
 use Rattle.records.specs.declared.Head.{Head}
+use Rattle.records.specs.declared.Refusal.{Refusal}
 use Rattle.records.specs.Refusals.{number_of}
 use Rattle.records.specs.Groups.{at}
 use Rattle.reader.specs.declared.Cursor.{Cursor}
-use Rattle.reader.specs.declared.Lines.{Lines}
-use Rattle.reader.specs.declared.Lines.TheVariants as lines
-use Rattle.reader.specs.declared.storm.Next.{Next}
-use Rattle.reader.specs.declared.storm.Next.TheVariants as next
-use Rattle.reader.specs.declared.traverse.Whole.{Whole}
-use Rattle.reader.specs.declared.traverse.Whole.TheVariants as whole
 use Rattle.reader.specs.declared.traverse.TraverseRead.{TraverseRead}
-use Rattle.reader.specs.Lines.{Leaves}
+use Rattle.reader.specs.Lines.{Leaves, leaves}
 use Rattle.reader.specs.Traverse.{no_points, traverse_left}
 use Rattle.reader.specs.Storm.{storm_start, next_left}
 use Rattle.lent.specs.Numbers.{place_number, answer_numbers, refused_answer, wrong_buffer}
@@ -37,13 +32,13 @@ head_numbers h = answer_numbers h.latitude h.friction h.initial
 
 -- a traverse that was read, with the count of its points in the answer; those past it are all zero. A refused text leaves `head` and `points` as
 -- they were
-abbrev pub after_traverse : Whole → Leaves TraverseRead → List ℤ → List ℤ → LeftTraverse
-after_traverse whole.Read x head points = left_traverse 0 (head_numbers x.answer.head) x.numbers (answer_numbers (pos 0) (place_number x.answer.count) (pos 0))
-after_traverse (whole.Refused refusal) x head points = left_traverse (number_of refusal.kind) head points (refused_answer refusal.place)
+abbrev pub after_traverse : Result TraverseRead Refusal → List ℤ → List ℤ → List ℤ → LeftTraverse
+after_traverse (Ok found) numbers head points = left_traverse 0 (head_numbers found.head) numbers (answer_numbers (pos 0) (place_number found.count) (pos 0))
+after_traverse (Err refusal) numbers head points = left_traverse (number_of refusal.kind) head points (refused_answer refusal.place)
 
-abbrev pub read_traverse_with : Leaves TraverseRead → List ℤ → List ℤ → List ℤ → LeftTraverse
+abbrev pub read_traverse_with : Leaves (Result TraverseRead Refusal) → List ℤ → List ℤ → List ℤ → LeftTraverse
 read_traverse_with x head points answer =
-    cond (traverse_buffers (length head) (length points) (length answer)) (after_traverse x.answer.answer x head points) (left_traverse wrong_buffer head points answer)
+    cond (traverse_buffers (length head) (length points) (length answer)) (after_traverse x.answer x.numbers head points) (left_traverse wrong_buffer head points answer)
 
 unfoldable pub read_traverse_call : List ℕ → List ℤ → List ℤ → List ℤ → LeftTraverse
 read_traverse_call text = read_traverse_with (traverse_left text no_points)
@@ -70,8 +65,13 @@ abbrev pub cursor_numbers : Cursor → List ℤ
 cursor_numbers c = place_number c.at ∷ place_number c.line ∷ []
 
 -- where nothing was read so far the names line is read first
-unfoldable pub start_of : List ℕ → Cursor → Lines
-start_of text c = cond (eqb c.at 0 && eqb c.line 0) (storm_start text) (lines.Read c)
+unfoldable pub start_of : List ℕ → Cursor → Result Cursor Refusal
+start_of text c = cond (eqb c.at 0 && eqb c.line 0) (storm_start text) (Ok c)
+
+-- the next record from there on, in the code's terms
+abbrev pub record_from : Result Cursor Refusal → List ℕ → ℕ → List ℤ → Leaves (Result (Option Cursor) Refusal)
+record_from (Ok c) text count numbers = next_left text count c.at c.line numbers
+record_from (Err refusal) text count numbers = leaves (Err refusal) numbers
 
 -- `cursor` has 2 numbers, `values` 2, `storm` 195, `answer` 3
 unfoldable pub record_buffers : ℕ → ℕ → ℕ → ℕ → Bool
@@ -98,19 +98,19 @@ abbrev pub kept_record : Cursor → List ℤ → LeftRecord
 kept_record c numbers = left_record 0 (cursor_numbers c) (take 2 numbers) (drop 2 numbers) (answer_numbers (pos 0) (pos 1) (pos 0))
 
 -- the end of the text and a refusal leave `cursor`, `values` and `storm` as they were
-abbrev pub after_answer : Next → List ℤ → List ℤ → List ℤ → List ℤ → LeftRecord
-after_answer (next.Read c) numbers cursor values storm = kept_record c numbers
-after_answer next.End numbers cursor values storm = left_record 0 cursor values storm (answer_numbers (pos 0) (pos 0) (pos 0))
-after_answer (next.Refused refusal) numbers cursor values storm = left_record (number_of refusal.kind) cursor values storm (refused_answer refusal.place)
+abbrev pub after_answer : Result (Option Cursor) Refusal → List ℤ → List ℤ → List ℤ → List ℤ → LeftRecord
+after_answer (Ok (Some c)) numbers cursor values storm = kept_record c numbers
+after_answer (Ok None) numbers cursor values storm = left_record 0 cursor values storm (answer_numbers (pos 0) (pos 0) (pos 0))
+after_answer (Err refusal) numbers cursor values storm = left_record (number_of refusal.kind) cursor values storm (refused_answer refusal.place)
 
-abbrev pub after_next : Leaves Next → List ℤ → List ℤ → List ℤ → LeftRecord
+abbrev pub after_next : Leaves (Result (Option Cursor) Refusal) → List ℤ → List ℤ → List ℤ → LeftRecord
 after_next x cursor values storm = after_answer x.answer x.numbers cursor values storm
 
-abbrev pub after_start : Lines → List ℕ → ℕ → List ℤ → List ℤ → List ℤ → LeftRecord
-after_start (lines.Read c) text count cursor values storm = after_next (next_left text count c.at c.line no_numbers) cursor values storm
-after_start (lines.Refused refusal) text count cursor values storm = left_record (number_of refusal.kind) cursor values storm (refused_answer refusal.place)
+abbrev pub after_start : Result Cursor Refusal → List ℕ → ℕ → List ℤ → List ℤ → List ℤ → LeftRecord
+after_start (Ok c) text count cursor values storm = after_next (next_left text count c.at c.line no_numbers) cursor values storm
+after_start (Err refusal) text count cursor values storm = left_record (number_of refusal.kind) cursor values storm (refused_answer refusal.place)
 
-abbrev pub read_record_with : Lines → List ℕ → ℕ → List ℤ → List ℤ → List ℤ → List ℤ → LeftRecord
+abbrev pub read_record_with : Result Cursor Refusal → List ℕ → ℕ → List ℤ → List ℤ → List ℤ → List ℤ → LeftRecord
 read_record_with x text count cursor values storm answer =
     cond (record_buffers (length cursor) (length values) (length storm) (length answer))
     (after_start x text count cursor values storm)

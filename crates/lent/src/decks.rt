@@ -1,8 +1,9 @@
 // Turning an old card deck into the text of `traverse.txt`. Every check and every byte is `deck`'s own.
+#![tactic(auto, unfolding(crate::specs::Decks::deck_call))]
+
 ghost use Rattle.lent.specs.Decks.{left_text, ReadsDeck};
 
-use super::numbers::{ANSWER, WRONG_BUFFER, place_number, refuse, store_three};
-use deck::Converted;
+use super::numbers::{ANSWER, WRONG_BUFFER, place_number, tell};
 use records::Head;
 
 // The three values are those of the file's second line; `text` is room for the file, whose bytes go to its front. The answer has how many there are.
@@ -21,16 +22,12 @@ pub fn read_deck(
         return WRONG_BUFFER;
     }
     let head = Head {
-        latitude: latitude,
-        friction: friction,
-        initial: initial,
+        latitude,
+        friction,
+        initial,
     };
     match deck::read_deck(head, deck, text) {
-        Converted::Refused(refusal) => refuse(refusal, answer),
-        Converted::Text(bytes) => {
-            let count = place_number(bytes);
-            store_three(answer, 0, count, 0);
-            0
-        }
+        Ok(bytes) => tell(answer, Ok([0, place_number(bytes), 0])),
+        Err(refusal) => tell(answer, Err(refusal)),
     }
 }

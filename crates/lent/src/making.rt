@@ -1,8 +1,10 @@
 // Making a storm record from a hurricane's few numbers. Every check and every number is `hurricane`'s own.
+#![tactic(auto, unfolding(crate::specs::Making::make_call))]
+
 ghost use Rattle.lent.specs.Making.{left_make, Makes};
 
-use super::numbers::{ANSWER, WRONG_BUFFER, refuse, store_three};
-use hurricane::{Hurricane, Made};
+use super::numbers::{ANSWER, WRONG_BUFFER, tell};
+use hurricane::Hurricane;
 use records::Closing;
 
 // `winds` has 2 numbers a row of the list, `sites` 3 a point, `storm` room for 3 a point. The answer has the seconds and the tide as they were
@@ -25,22 +27,16 @@ pub fn make_record(
     if answer.len() != ANSWER {
         return WRONG_BUFFER;
     }
-    let storm_at = Hurricane {
-        central: central,
-        edge: edge,
-        radius: radius,
-        x: x,
-        y: y,
+    let h = Hurricane {
+        central,
+        edge,
+        radius,
+        x,
+        y,
     };
-    let closing = Closing {
-        seconds: seconds,
-        tide: tide,
-    };
-    match hurricane::make_record(storm_at, closing, winds, sites, storm) {
-        Made::Refused(refusal) => refuse(refusal, answer),
-        Made::Made(given) => {
-            store_three(answer, 0, given.seconds, given.tide);
-            0
-        }
+    let closing = Closing { seconds, tide };
+    match hurricane::make_record(h, closing, winds, sites, storm) {
+        Ok(given) => tell(answer, Ok([0, given.seconds, given.tide])),
+        Err(refusal) => tell(answer, Err(refusal)),
     }
 }

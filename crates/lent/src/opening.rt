@@ -1,8 +1,10 @@
 // Opening a traverse.
+#![tactic(auto, unfolding(crate::specs::Numbers::buffers_ok, crate::specs::Calls::open_call))]
+
 ghost use Rattle.lent.specs.Calls.{left_open, Opens};
 
-use super::numbers::{WRONG_BUFFER, buffers_ok, refuse, store_state, store_three};
-use records::{Check, Head};
+use super::numbers::{ANSWER, STATE, WRONG_BUFFER, store_state, tell};
+use records::{Head, Traverse};
 
 // `points` has 2 numbers a point. The number of the refusal is returned, 0 where the traverse is accepted.
 pub fn open_traverse(
@@ -15,21 +17,19 @@ pub fn open_traverse(
 ) -> u64
     ensures { Opens latitude friction initial points.now state.old answer.old (left_open result state.new answer.new) }
 {
-    if !buffers_ok(state.len(), answer.len()) {
+    if state.len() != STATE || answer.len() != ANSWER {
         return WRONG_BUFFER;
     }
     let head = Head {
-        latitude: latitude,
-        friction: friction,
-        initial: initial,
+        latitude,
+        friction,
+        initial,
     };
-    let opened = march::open_traverse(head, points);
-    let check = opened.check;
-    if let Check::Fail(refusal) = check {
-        return refuse(refusal, answer);
+    match march::open_traverse(Traverse { head, points }) {
+        Ok(fresh) => {
+            store_state(state, fresh);
+            tell(answer, Ok([0, 0, 0]))
+        }
+        Err(refusal) => tell(answer, Err(refusal)),
     }
-    let fresh = opened.state;
-    store_state(state, fresh);
-    store_three(answer, 0, 0, 0);
-    0
 }

@@ -1,178 +1,87 @@
 // The text of `traverse.txt` and of `storm.txt`, any bytes, read into a caller's numbers. Every check is the reader's own. What is read goes into
 // numbers of the call's own first, so that a refused text leaves what is lent as it was.
-ghost use Rattle.std.specs.Prelude.{◌≡◌, pos, length};
-ghost use Rattle.reader.specs.Storm.{next_left};
-ghost use Rattle.lent.specs.Numbers.{answer_numbers};
-ghost use Rattle.lent.specs.Texts.{no_numbers, traverse_buffers, left_traverse, ReadsTraverse, lent_place, cursor_of, cursor_numbers, start_of, record_buffers, RecordIn, left_record, kept_record, after_next, ReadsRecord};
+#![tactic(auto, unfolding(crate::specs::Texts::traverse_buffers, crate::specs::Texts::read_traverse_call, crate::specs::Texts::start_of, crate::specs::Texts::record_buffers, crate::specs::Texts::read_record_call))]
 
-use super::numbers::{ANSWER, WRONG_BUFFER, place_number, refuse, store_three};
-use reader::{Cursor, Lines, Next, Whole};
+ghost use Rattle.std.specs.Prelude.{◌≡◌, length};
+ghost use Rattle.reader.specs.Lines.{leaves};
+ghost use Rattle.lent.specs.Texts.{left_traverse, ReadsTraverse, cursor_of, cursor_numbers, start_of, record_from, left_record, ReadsRecord};
 
-// How many numbers are lent for a traverse's head, for 65 points of it, for a cursor, for a record's values and for 65 points of it.
-const HEAD: usize = 3;
+use super::numbers::{ANSWER, WRONG_BUFFER, place_number, tell};
+use reader::Cursor;
+use records::groups::Group;
+use records::limits::POINTS_MOST;
+use records::{Closing, Head, Point, Refusal, Station};
 
-const POINTS: usize = 130;
+// How many numbers are lent for a traverse's head, for its points, for a cursor, for a record's values and for its points.
+const HEAD: usize = Head::NUMBERS;
+
+const POINTS: usize = Station::NUMBERS * POINTS_MOST;
 
 const CURSOR: usize = 2;
 
-const VALUES: usize = 2;
+const VALUES: usize = Closing::NUMBERS;
 
-const STORM: usize = 195;
+const STORM: usize = Point::NUMBERS * POINTS_MOST;
 
-// All numbers of `from`, which are as many.
-pub fn copy(to: &mut [i64], from: &[i64])
-    requires { length to.old ≡ length from.now }
-    ensures { to.new ≡ from.now }
-{
-    let mut i = 0;
-    while i < to.len() {
-        to[i] = from[i];
-        i += 1;
-    }
-}
-
-pub fn traverse_buffers(head: usize, points: usize, answer: usize) -> bool
-    ensures { result ≡ traverse_buffers head points answer }
-{
-    if head != HEAD {
-        return false;
-    }
-    if points != POINTS {
-        return false;
-    }
-    answer == ANSWER
-}
+const RECORD: usize = VALUES + STORM;
 
 // Reads a traverse text: 3 numbers of values, 2 to each of 65 points, and in the answer how many points there are.
 pub fn read_traverse(text: &[u8], head: &mut [i64], points: &mut [i64], answer: &mut [i64]) -> u64
     ensures { ReadsTraverse text.now head.old points.old answer.old (left_traverse result head.new points.new answer.new) }
 {
-    if !traverse_buffers(head.len(), points.len(), answer.len()) {
+    if head.len() != HEAD || points.len() != POINTS || answer.len() != ANSWER {
         return WRONG_BUFFER;
     }
-    let mut numbers = [0; 130];
-    let read = reader::read_traverse(text, &mut numbers);
-    let found = read.answer;
-    let values = read.head;
-    match found {
-        Whole::Refused(refusal) => refuse(refusal, answer),
-        Whole::Read => {
-            let count = place_number(read.count);
-            store_three(head, values.latitude, values.friction, values.initial);
-            copy(points, &numbers);
-            store_three(answer, 0, count, 0);
-            0
+    let mut numbers = [0; POINTS];
+    match reader::read_traverse(text, &mut numbers) {
+        Ok(found) => {
+            found.head.write(head);
+            points.copy_from_slice(&numbers);
+            tell(answer, Ok([0, place_number(found.count), 0]))
         }
+        Err(refusal) => tell(answer, Err(refusal)),
     }
 }
 
-// A lent number as a place in the text or a count of lines; a negative one is read as 0.
-pub fn lent_place(x: i64) -> usize
-    ensures { result ≡ lent_place x }
-{
-    if x < 0 {
-        return 0;
-    }
-    x as usize
-}
-
-pub fn load_cursor(numbers: &[i64]) -> Cursor
+// A cursor as it is lent; a negative number is read as 0.
+fn load_cursor(numbers: &[i64]) -> Cursor
     requires { length numbers.now ≡ 2 }
     ensures { result ≡ cursor_of numbers.now }
 {
-    let place = numbers[0];
-    let lines = numbers[1];
-    let at = lent_place(place);
-    let line = lent_place(lines);
-    Cursor { at: at, line: line }
+    Cursor {
+        at: usize::try_from(numbers[0]).unwrap_or(0),
+        line: usize::try_from(numbers[1]).unwrap_or(0),
+    }
 }
 
-pub fn store_cursor(numbers: &mut [i64], c: Cursor)
+fn store_cursor(numbers: &mut [i64], c: Cursor)
     requires { length numbers.old ≡ 2 }
     ensures { numbers.new ≡ cursor_numbers c }
 {
-    let at = place_number(c.at);
-    let line = place_number(c.line);
-    numbers[0] = at;
-    numbers[1] = line;
+    numbers.copy_from_slice(&[place_number(c.at), place_number(c.line)]);
 }
 
 // The names line, where nothing was read so far.
-pub fn start_of(text: &[u8], from: Cursor) -> Lines
+fn start_of(text: &[u8], from: Cursor) -> Result<Cursor, Refusal>
     ensures { result ≡ start_of text.now from }
 {
-    if from.at != 0 {
-        return Lines::Read(from);
+    if from.at == 0 && from.line == 0 {
+        reader::storm_start(text)
+    } else {
+        Ok(from)
     }
-    if from.line != 0 {
-        return Lines::Read(from);
-    }
-    reader::storm_start(text)
 }
 
-pub fn record_buffers(cursor: usize, values: usize, storm: usize, answer: usize) -> bool
-    ensures { result ≡ record_buffers cursor values storm answer }
-{
-    if cursor != CURSOR {
-        return false;
-    }
-    if values != VALUES {
-        return false;
-    }
-    if storm != STORM {
-        return false;
-    }
-    answer == ANSWER
-}
-
-// A record that was read: the cursor past it, its values and its points.
-pub fn keep_record(
-    c: Cursor,
-    numbers: &[i64],
-    cursor: &mut [i64],
-    values: &mut [i64],
-    storm: &mut [i64],
-    answer: &mut [i64],
-) -> u64
-    requires { (RecordIn cursor.old values.old storm.old answer.old) × (length numbers.now ≡ 197) }
-    ensures { left_record result cursor.new values.new storm.new answer.new ≡ kept_record c numbers.now }
-{
-    store_cursor(cursor, c);
-    copy(values, &numbers[..2]);
-    copy(storm, &numbers[2..]);
-    store_three(answer, 0, 1, 0);
-    0
-}
-
-// The end of the text: no record.
-pub fn end_text(answer: &mut [i64]) -> u64
-    requires { length answer.old ≡ 3 }
-    ensures value { result ≡ 0 }
-    ensures answer_after { answer.new ≡ answer_numbers (pos 0) (pos 0) (pos 0) }
-{
-    store_three(answer, 0, 0, 0);
-    0
-}
-
-// The record at a cursor.
-pub fn read_on(
+// The next record from a cursor on.
+fn record_from(
     from: Cursor,
     text: &[u8],
     count: usize,
-    cursor: &mut [i64],
-    values: &mut [i64],
-    storm: &mut [i64],
-    answer: &mut [i64],
-) -> u64
-    requires { RecordIn cursor.old values.old storm.old answer.old }
-    ensures { left_record result cursor.new values.new storm.new answer.new ≡ after_next (next_left text.now count from.at from.line no_numbers) cursor.old values.old storm.old }
+    numbers: &mut [i64],
+) -> Result<Option<Cursor>, Refusal>
+    ensures { leaves result numbers.new ≡ record_from (start_of text.now from) text.now count numbers.old }
 {
-    let mut numbers = [0; 197];
-    match from.next_record(text, count, &mut numbers) {
-        Next::Refused(refusal) => refuse(refusal, answer),
-        Next::End => end_text(answer),
-        Next::Read(c) => keep_record(c, &numbers, cursor, values, storm, answer),
-    }
+    start_of(text, from)?.next_record(text, count, numbers)
 }
 
 // Reads the next record of a storm text for a traverse of so many points, and before the first one the names line.
@@ -186,12 +95,23 @@ pub fn read_record(
 ) -> u64
     ensures { ReadsRecord text.now count cursor.old values.old storm.old answer.old (left_record result cursor.new values.new storm.new answer.new) }
 {
-    if !record_buffers(cursor.len(), values.len(), storm.len(), answer.len()) {
+    if cursor.len() != CURSOR
+        || values.len() != VALUES
+        || storm.len() != STORM
+        || answer.len() != ANSWER
+    {
         return WRONG_BUFFER;
     }
-    let from = load_cursor(cursor);
-    match start_of(text, from) {
-        Lines::Refused(refusal) => refuse(refusal, answer),
-        Lines::Read(c) => read_on(c, text, count, cursor, values, storm, answer),
+    let mut numbers = [0; RECORD];
+    match record_from(load_cursor(cursor), text, count, &mut numbers) {
+        Ok(Some(past)) => {
+            let (closing, rest) = numbers.split_at(VALUES);
+            store_cursor(cursor, past);
+            values.copy_from_slice(closing);
+            storm.copy_from_slice(rest);
+            tell(answer, Ok([0, 1, 0]))
+        }
+        Ok(None) => tell(answer, Ok([0, 0, 0])),
+        Err(refusal) => tell(answer, Err(refusal)),
     }
 }

@@ -1,54 +1,22 @@
 // Taking a record, with the rows among a slice of numbers.
-ghost use Rattle.std.specs.Prelude.{◌≡◌, length};
-ghost use Rattle.lent.specs.Calls.{call_of, rows_size, left_numbers, take_numbers};
+#![tactic(auto, unfolding(crate::specs::Numbers::buffers_ok, crate::specs::Calls::rows_size, crate::specs::Calls::take_numbers))]
 
-use super::numbers::{WRONG_BUFFER, buffers_ok, refuse, state_of, store_state, store_three};
-use march::{Answer, Call};
+ghost use Rattle.std.specs.Prelude.{◌≡◌};
+ghost use Rattle.lent.specs.Calls.{rows_size, left_numbers, take_numbers};
+
+use super::numbers::{ANSWER, STATE, WRONG_BUFFER, state_of, store_state, tell};
+use records::groups::Group;
 use records::limits::SEGMENTS_MOST;
-use records::{Closing, Head, Row};
+use records::{Closing, Head, Row, StormRecord, Traverse};
 
 // How many numbers n rows are, where so many may be lent and are there; else 0.
-#[tactic(auto, unfolding(crate::specs::Calls::rows_size))]
 pub fn rows_size(n: usize, len: usize) -> usize
     ensures { result ≡ rows_size n len }
 {
-    if n > SEGMENTS_MOST {
+    if n > SEGMENTS_MOST || Row::NUMBERS * n > len {
         return 0;
     }
-    let size = Row::NUMBERS * n;
-    if size > len {
-        return 0;
-    }
-    size
-}
-
-// What the march is given beside the lent numbers.
-pub fn call_of(
-    latitude: i64,
-    friction: i64,
-    initial: i64,
-    seconds: i64,
-    tide: i64,
-    state: &[i64],
-) -> Call
-    requires { length state.now ≡ 2 }
-    ensures { result ≡ call_of latitude friction initial seconds tide state.now }
-{
-    let head = Head {
-        latitude: latitude,
-        friction: friction,
-        initial: initial,
-    };
-    let closing = Closing {
-        seconds: seconds,
-        tide: tide,
-    };
-    let kept = state_of(state);
-    Call {
-        head: head,
-        closing: closing,
-        state: kept,
-    }
+    Row::NUMBERS * n
 }
 
 // Takes a record, with n rows in the first of `numbers`.
@@ -68,24 +36,26 @@ pub fn take_numbers(
 ) -> u64
     ensures { left_numbers result state.new numbers.new setup.new answer.new ≡ take_numbers latitude friction initial points.now seconds tide storm.now state.old n numbers.old setup.old answer.old }
 {
-    if !buffers_ok(state.len(), answer.len()) {
+    if state.len() != STATE || answer.len() != ANSWER {
         return WRONG_BUFFER;
     }
-    let call = call_of(latitude, friction, initial, seconds, tide, state);
+    let head = Head {
+        latitude,
+        friction,
+        initial,
+    };
+    let traverse = Traverse { head, points };
+    let record = StormRecord {
+        closing: Closing { seconds, tide },
+        points: storm,
+    };
+    let mut next = state_of(state);
     let size = rows_size(n, numbers.len());
-    let taken = march::take_record(call, points, storm, &mut numbers[..size], setup);
-    let told = taken.answer;
-    let next = taken.state;
-    match told {
-        Answer::Refused(refusal) => refuse(refusal, answer),
-        Answer::Accepted {
-            elapsed: _,
-            low,
-            high,
-        } => {
+    match march::take_record(traverse, record, &mut next, &mut numbers[..size], setup) {
+        Ok(height) => {
             store_state(state, next);
-            store_three(answer, 0, low, high);
-            0
+            tell(answer, Ok([0, height.low, height.high]))
         }
+        Err(refusal) => tell(answer, Err(refusal)),
     }
 }

@@ -1,33 +1,29 @@
 -- Laws of `put_of`: what an open call answers, from the test for room and from what was written. Assumes nothing.
 use mathlib.Core.Path.{◌≡◌, refl, sym, ap, ◌∙◌}
 use native.Mathlib.Omega.{arith}
-use mathlib.Core.Bool.{Bool, true, false, not}
+use mathlib.Core.Bool.{Bool, true, false}
 use mathlib.Core.List.{List}
+use Rattle.std.specs.Prelude.{Option, Some, None}
 use Prim.Native.Nat.{ℕ, ◌+◌, ◌≤◌}
 use lib.ListN.{length}
 use lib.Dec.{leb}
-use borrow.Author.Tests.{not-true, not-false, leb-true, le-leb}
+use borrow.Author.Tests.{leb-true, le-leb}
 use Rattle.listing.specs.Put.{AfterPut, after_put, written, put_of, Wrote}
 use Rattle.listing.proofs.Written.{length-written}
-use Rattle.listing.specs.declared.Put.TheVariants.{Next, Full}
 
 module _ (line : List ℕ) (at : ℕ) (s : List ℕ) (count : ℕ) (long : count ≡ length line)
     (room : Bool) (test : room ≡ leb (at + count) (length s)) where
   -- there is no room, and nothing is written
-  pub put_full : not room ≡ true → after_put Full s ≡ put_of line at s
+  pub put_full : room ≡ false → after_put None s ≡ put_of line at s
   unfolding put_of
-  put_full e = let f : leb (at + count) (length s) ≡ false = sym test ∙ not-true room e in rw (← long, f)
+  put_full e = let f : leb (at + count) (length s) ≡ false = sym test ∙ e in rw (← long, f)
 
   -- there is room, and the line is written
-  pub put_next : not room ≡ false → {next : ℕ} {t : List ℕ} → Wrote line at s next t → after_put (Next next) t ≡ put_of line at s
+  pub put_next : room ≡ true → {next : ℕ} {t : List ℕ} → Wrote line at s next t → after_put (Some next) t ≡ put_of line at s
   unfolding put_of
   put_next e {next} {t} h =
-      let f : leb (at + length line) (length s) ≡ true = rw long at (sym test ∙ not-false room e) in
+      let f : leb (at + length line) (length s) ≡ true = rw long at (sym test ∙ e) in
       rw (f, h.place, h.buffer)
-
--- the room that the test found
-pub room-there : (at count size long : ℕ) (room : Bool) → count ≡ long → room ≡ leb (at + count) size → not room ≡ false → at + long ≤ size
-room-there at count size long room e test h = rw e at (leb-true (at + count) size (sym test ∙ not-false room h))
 
 -- ---- for callers
 
@@ -39,39 +35,43 @@ pub record Fitted (line : List ℕ) (at : ℕ) (s : List ℕ) (next : ℕ) (t : 
   pub long : length t ≡ length s
 
 module _ (line : List ℕ) (at : ℕ) (s : List ℕ) where
-  pub next-told : (next : ℕ) (t : List ℕ) → after_put (Next next) t ≡ put_of line at s → Fitted line at s next t
+  pub next-told : (next : ℕ) (t : List ℕ) → after_put (Some next) t ≡ put_of line at s → Fitted line at s next t
   unfolding put_of
   next-told next t e = by (leb (at + length line) (length s)) refl
     where
       by : (f : Bool) → leb (at + length line) (length s) ≡ f → Fitted line at s next t
       by true l =
-          let g : after_put (Next next) t ≡ after_put (Next (at + length line)) (written line at s) = rw l at e in
+          let g : after_put (Some next) t ≡ after_put (Some (at + length line)) (written line at s) = rw l at e in
           let p : next ≡ at + length line = cc (ap (λ (x : AfterPut). x.answer) g) in
           let b : t ≡ written line at s = ap (λ (x : AfterPut). x.out) g in
           let w : at + length line ≤ length s = leb-true (at + length line) (length s) l in
           record { place = p; within = omega arith; buffer = b; long = ap length b ∙ length-written line at s w }
       by false l =
-          let g : after_put (Next next) t ≡ after_put Full s = rw l at e in
+          let g : after_put (Some next) t ≡ after_put None s = rw l at e in
           let z : ◌≡◌ {A = ℕ} 0 1 = cc (ap (λ (x : AfterPut). x.answer) g) in
           let no : ⊥ = omega arith in
           elim no [ ]
 
-  -- `Full` leaves the buffer as lent
-  pub full-told : (t : List ℕ) → after_put Full t ≡ put_of line at s → t ≡ s
+  -- `None` leaves the buffer as lent
+  pub full-told : (t : List ℕ) → after_put None t ≡ put_of line at s → t ≡ s
   unfolding put_of
   full-told t e = by (leb (at + length line) (length s)) refl
     where
       by : (f : Bool) → leb (at + length line) (length s) ≡ f → t ≡ s
       by true l =
-          let g : after_put Full t ≡ after_put (Next (at + length line)) (written line at s) = rw l at e in
+          let g : after_put None t ≡ after_put (Some (at + length line)) (written line at s) = rw l at e in
           let z : ◌≡◌ {A = ℕ} 0 1 = cc (ap (λ (x : AfterPut). x.answer) g) in
           let no : ⊥ = omega arith in
           elim no [ ]
       by false l =
-          let g : after_put Full t ≡ after_put Full s = rw l at e in
+          let g : after_put None t ≡ after_put None s = rw l at e in
           ap (λ (x : AfterPut). x.out) g
 
   -- where there is room, the line goes in
-  pub put-fits : at + length line ≤ length s → put_of line at s ≡ after_put (Next (at + length line)) (written line at s)
+  pub put-fits : at + length line ≤ length s → put_of line at s ≡ after_put (Some (at + length line)) (written line at s)
   unfolding put_of
   put-fits h = rw (le-leb (at + length line) (length s) h)
+
+  -- so the place behind it is the answer
+  pub put-some : (r : Option ℕ) (t : List ℕ) → after_put r t ≡ put_of line at s → at + length line ≤ length s → r ≡ Some (at + length line)
+  put-some r t e h = ap (λ (x : AfterPut). x.answer) (e ∙ put-fits h)

@@ -6,8 +6,10 @@ use mathlib.Core.List.{List, [], ◌∷◌, ◌++◌}
 use Prim.Native.Nat.{ℕ, zero, suc, ◌+◌, ◌*◌, ◌/◌, ◌%◌, ◌^◌, ◌<◌, ◌≤◌}
 use native.Mathlib.Omega.{arith}
 use native.Mathlib.Numerals.{add-one}
-use native.Mathlib.Nat.{not-suc-le-zero, div-one, div-lt_self, div-lt_iff_lt-mul, le-div_iff_mul-le, div-div-eq-div-mul, pow-suc}
+use native.Mathlib.Nat.{not-suc-le-zero, div-lt_self, div-lt_iff_lt-mul, le-div_iff_mul-le, pow-suc}
 use lib.ListN.{length, length-append}
+use Rattle.std.specs.Prelude.{Option, Some, None, IfSome, IfNone}
+use Rattle.std.specs.Option.{unwrap_or}
 use lib.Dec.{ltb}
 use borrow.Author.Tests.{lt-ltb, le-ltb, ltb-true, ltb-false}
 use Rattle.listing.specs.Decimal.{digit, digits_of, decimal_of}
@@ -80,27 +82,43 @@ length_most (suc k) n h =
     let r = length_most k (n / 10) ((div-lt_iff_lt-mul {k = 10} (omega arith)).1 p) in
     omega (arith, length-large n l))
 
--- ---- counting by powers
+-- a number between two powers of ten
+pub length_between : (k n : ℕ) → 10 ^ k ≤ n → n < 10 * 10 ^ k → length (decimal_of n) ≡ k + 1
+length_between zero n l h = length-small n (omega arith)
+length_between (suc k) n l h =
+    let p : 10 ^ k * 10 ≤ n = rw pow-suc at l in
+    let q : n < 10 * (10 ^ k * 10) = rw pow-suc at h in
+    let low : 10 ^ k ≤ n / 10 = (le-div_iff_mul-le {k = 10} (omega arith)).1 p in
+    let high : n / 10 < 10 * 10 ^ k = (div-lt_iff_lt-mul {k = 10} (omega arith)).1 (omega arith) in
+    omega (arith, length-large n (omega arith), length_between k (n / 10) low high)
 
--- the count of n's digits, where `count` of them are behind the digits of n / power
-abbrev pub Counted : ℕ → ℕ → ℕ → Type 0
-Counted n power count = length (decimal_of n) + 1 ≡ count + length (decimal_of (n / power))
+-- one more than the logarithm of n, where it has one
+pub length-counted : (n : ℕ) (r : Option ℕ) → IfNone r (n ≡ 0) → IfSome r (λ k. 10 ^ k ≤ n) → IfSome r (λ k. n < 10 * 10 ^ k)
+    → length (decimal_of n) ≡ unwrap_or r 0 + 1
+length-counted n None z l h = length-small n (omega arith)
+length-counted n (Some k) z l h = length_between k n l h
 
--- before the first turn
-pub counted_none : (n : ℕ) → Counted n 1 1
-counted_none n = rw (div-one n) (omega arith)
+-- ---- from the last digit on
 
-module _ (n power count : ℕ) (some : 0 < power) (known : Counted n power count) where
-  -- where ten powers are at most n, one digit more is behind
-  pub counted-more : power ≤ n / 10 → Counted n (power * 10) (count + 1)
-  counted-more h =
-      let p : power * 10 ≤ n = (le-div_iff_mul-le {k = 10} (omega arith)).0 h in
-      let l : 10 ≤ n / power = (le-div_iff_mul-le {k = power} some).1 (omega arith) in
-      rw (← div-div-eq-div-mul n power 10) (omega (arith, length-large (n / power) l))
+-- the last k digits of n, with zeros in front where it has fewer
+abbrev pub last_digits : ℕ → ℕ → List ℕ
+last_digits zero n = []
+last_digits (suc k) n = last_digits k (n / 10) ++ (digit (n % 10) ∷ [])
 
-  -- otherwise n / power is the first digit
-  pub counted-all : n / 10 < power → count ≡ length (decimal_of n)
-  counted-all h =
-      let p : n < power * 10 = (div-lt_iff_lt-mul {k = 10} (omega arith)).0 h in
-      let l : n / power < 10 = (div-lt_iff_lt-mul {k = power} some).1 (omega arith) in
-      omega (arith, length-small (n / power) l)
+pub length-last : (k n : ℕ) → length (last_digits k n) ≡ k
+length-last zero n = refl
+length-last (suc k) n = omega (arith, length-append (last_digits k (n / 10)) (digit (n % 10) ∷ []), length-last k (n / 10))
+
+-- as many as it has are all
+all-below : (k n : ℕ) → n < k → last_digits (length (decimal_of n)) n ≡ decimal_of n
+all-below zero n h = elim (not-suc-le-zero h) [ ]
+all-below (suc k) n h =
+    by_size n
+    (λ l. let d : n % 10 ≡ n = omega arith in rw (length-small n l, decimal-small n l, d))
+    (λ l.
+    let e : length (decimal_of n) ≡ suc (length (decimal_of (n / 10))) = omega (arith, length-large n l) in
+    let d = tenth-less n l in
+    rw (e, decimal-large n l, all-below k (n / 10) (omega arith)))
+
+pub last-all : (n : ℕ) → last_digits (length (decimal_of n)) n ≡ decimal_of n
+last-all n = all-below (suc n) n (omega arith)

@@ -41,7 +41,7 @@ refused-parts number place = simp append_assoc
 
 -- ---- the longest lines: a buffer with this much room is never full
 
-signed-most : (x : ℤ) → SFits w64 x → length (signed_text x) ≤ 20
+pub signed-most : (x : ℤ) → SFits w64 x → length (signed_text x) ≤ 20
 unfolding signed_text
 signed-most (pos n) f = let s = f.sfits in length_most 19 n (omega arith)
 signed-most (negsuc n) f = let s = f.sfits in let l = length_most 18 (suc n) (omega arith) in omega arith

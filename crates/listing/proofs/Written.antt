@@ -3,9 +3,8 @@ use mathlib.Core.Path.{◌≡◌, refl, sym, ap, ◌∙◌}
 use mathlib.Core.List.{List, [], ◌∷◌, ◌++◌, append_assoc, append-nil}
 use Prim.Native.Nat.{ℕ, suc, ◌+◌, ◌<◌, ◌≤◌}
 use native.Mathlib.Omega.{arith}
-use native.Mathlib.Numerals.{add-one}
-use lib.ListN.{length, take, drop, set, get_or, length-append, take-append-drop}
-use lib.Seq.{sets, sets-eq, length-sets, lt-length-set, take-set-le, drop-set-lt, drop-cons, get_or-set_same, append_snoc, take-length, paste, paste-zero, paste-suc, length-paste}
+use lib.ListN.{length, take, drop, set, length-append, take-append-drop}
+use lib.Seq.{sets, sets-eq, length-sets, lt-length-set, take-set-le, drop-set-lt, drop-cons, get_or-set_same, append_snoc}
 use Rattle.listing.specs.Put.{written, Wrote}
 
 -- `written` is a run of stores, where the bytes fit
@@ -64,32 +63,6 @@ written_last xs b at s h =
     )
     (sym (append_snoc (take at s ++ xs) b (drop (suc (at + length xs)) s))
     ∙ ap (λ (x : List ℕ). x ++ drop (suc (at + length xs)) s) (append_assoc (take at s) xs (b ∷ [])))
-
--- ---- a copy byte by byte
-
--- s with the first n of the bytes copied to place `at` is t
-pub record Copied (bytes : List ℕ) (at : ℕ) (s t : List ℕ) (n : ℕ) : Type 0 where
-  pub few : n ≤ length bytes
-  pub copy : t ≡ paste s at bytes n
-
-pub copied_none : (bytes : List ℕ) (at : ℕ) (s : List ℕ) → Copied bytes at s s 0
-copied_none bytes at s = record { few = omega arith; copy = paste-zero s at bytes }
-
-module _ {bytes : List ℕ} {at : ℕ} {s t : List ℕ} {n : ℕ} (h : Copied bytes at s t n) (room : at + length bytes ≤ length s) where
-  pub copied-length : length t ≡ length s
-  copied-length = rw h.copy (length-paste s at bytes n (omega (arith, h.few)) h.few)
-
-  pub copied_more : n < length bytes → Copied bytes at s (set t (at + n) (get_or bytes n 0)) (n + 1)
-  copied_more l = record {
-    few = omega arith;
-    copy = rw (h.copy, add-one n) (paste-suc s at bytes n 0 (omega arith) l);
-  }
-
-  pub copied_all : length bytes ≤ n → Wrote bytes at s (at + n) t
-  unfolding written
-  copied_all l =
-      let e : n ≡ length bytes = omega (arith, h.few) in
-      record { place = omega arith; buffer = h.copy ∙ rw (e, take-length bytes) }
 
 -- ---- calls one behind the other
 

@@ -1,6 +1,8 @@
 -- The lines that the program prints, from "Reference runs" of document 01. Assumes nothing.
 use Rattle.std.specs.Prelude.{ℕ, List, [], ◌∷◌, ◌++◌, ℤ}
 use Rattle.listing.specs.Decimal.{decimal_of, signed_text}
+use Rattle.listing.specs.declared.Line.{Line}
+use Rattle.listing.specs.declared.Line.TheVariants as line
 
 -- one space between values, and a line feed at the end of every line
 abbrev pub space : List ℕ
@@ -32,3 +34,10 @@ refused_line number place = refused_word ++ decimal_of number ++ space ++ decima
 -- `failed`: the last line where the system failed a read. Not of document 01's listing: decision 24
 abbrev pub failed_line : List ℕ
 failed_line = 102 ∷ 97 ∷ 105 ∷ 108 ∷ 101 ∷ 100 ∷ 10 ∷ []
+
+-- the text of a line, whichever it is
+abbrev pub line_text : Line → List ℕ
+line_text line.Names = names_line
+line_text (line.Record elapsed low high) = record_line elapsed low high
+line_text (line.Refused number place) = refused_line number place
+line_text line.Failed = failed_line

@@ -1,6 +1,6 @@
 // Whole decimal numbers and words put into a buffer that the caller lends. A `write_` function writes where its caller has seen to the room, and
 // answers the place behind what it wrote; the counts and `has_room` tell the room beforehand.
-ghost use Rattle.std.specs.Prelude.{◌≡◌, [], ◌∷◌, ◌++◌, ◌+◌, ◌<◌, ◌≤◌, length, leb, nat_abs};
+ghost use Rattle.std.specs.Prelude.{◌≡◌, [], ◌∷◌, ◌++◌, ◌+◌, ◌<◌, ◌≤◌, length, leb};
 ghost use Rattle.listing.specs.Decimal.{decimal_of, signed_text};
 ghost use Rattle.listing.specs.Lines.{values_line};
 ghost use Rattle.listing.specs.Put.{Wrote};
@@ -9,48 +9,21 @@ ghost use Rattle.listing.specs.Put.{Wrote};
 pub fn has_room(size: usize, at: usize, count: usize) -> bool
     ensures { result ≡ leb (at + count) size }
 {
-    if size < at {
-        return false;
-    }
-    count <= size - at
+    at <= size && count <= size - at
 }
 
-// How many digits n has, found with one division. `power` grows only while ten of it are at most n,
-// so it cannot wrap. The bound is there for callers that add counts.
+// How many digits n has: one more than its logarithm, and 0 has one. The bound is there for callers that add counts.
 pub fn digit_count(n: u64) -> usize
     ensures { (result ≡ length (decimal_of n)) × (result ≤ 20) }
 {
-    let tenth = n / 10;
-    let mut power: u64 = 1;
-    let mut count = 1;
-    while power <= tenth {
-        power *= 10;
-        count += 1;
-    }
-    count
-}
-
-// The size of x. The negative of the least i64 fits no i64, so one is added before the sign is
-// turned, and one behind it as a u64.
-fn size_of(x: i64) -> u64
-    ensures { result ≡ nat_abs x }
-{
-    if x < 0 {
-        let less = 0 - (x + 1);
-        return less as u64 + 1;
-    }
-    x as u64
+    n.checked_ilog10().unwrap_or(0) as usize + 1
 }
 
 // How many bytes x takes with its sign.
 pub fn signed_count(x: i64) -> usize
     ensures { (result ≡ length (signed_text x)) × (result ≤ 21) }
 {
-    let count = digit_count(size_of(x));
-    if x < 0 {
-        return count + 1;
-    }
-    count
+    usize::from(x < 0) + digit_count(x.unsigned_abs())
 }
 
 // A word of a line.
@@ -58,12 +31,9 @@ pub fn write_bytes(out: &mut [u8], at: usize, bytes: &[u8]) -> usize
     requires { at + length bytes.now ≤ length out.old }
     ensures { Wrote bytes.now at out.old result out.new }
 {
-    let mut i = 0;
-    while i < bytes.len() {
-        out[at + i] = bytes[i];
-        i += 1;
-    }
-    at + i
+    let end = at + bytes.len();
+    out[at..end].copy_from_slice(bytes);
+    end
 }
 
 // n and the byte that closes it. The digits come out of n last first, so they are stored from the
@@ -73,14 +43,11 @@ pub fn write_decimal(out: &mut [u8], at: usize, n: u64, close: u8) -> usize
     ensures { Wrote (decimal_of n ++ (close ∷ [])) at out.old result out.new }
 {
     let end = at + digit_count(n);
-    let mut place = end;
     let mut rest = n;
-    while rest >= 10 {
-        place -= 1;
-        out[place] = (48 + rest % 10) as u8;
+    for place in (at..end).rev() {
+        out[place] = b'0' + (rest % 10) as u8;
         rest /= 10;
     }
-    out[at] = (48 + rest) as u8;
     out[end] = close;
     end + 1
 }
@@ -90,7 +57,7 @@ pub fn write_signed(out: &mut [u8], at: usize, x: i64, close: u8) -> usize
     requires { at + length (signed_text x) < length out.old }
     ensures { Wrote (signed_text x ++ (close ∷ [])) at out.old result out.new }
 {
-    let size = size_of(x);
+    let size = x.unsigned_abs();
     if x < 0 {
         out[at] = b'-';
         return write_decimal(out, at + 1, size, close);
@@ -98,9 +65,9 @@ pub fn write_signed(out: &mut [u8], at: usize, x: i64, close: u8) -> usize
     write_decimal(out, at, size, close)
 }
 
-// How many bytes a line of three values takes, each with the byte that closes it.
+// How many bytes a line of three values takes, each with the byte that closes it. The bound is there for callers, as above.
 pub fn values_count(a: i64, b: i64, c: i64) -> usize
-    ensures { result ≡ length (values_line a b c) }
+    ensures { (result ≡ length (values_line a b c)) × (result ≤ 63) }
 {
     signed_count(a) + signed_count(b) + signed_count(c) + 3
 }

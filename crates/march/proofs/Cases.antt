@@ -4,11 +4,9 @@ use mathlib.Core.Path.{◌≡◌, refl}
 use mathlib.Core.Bool.{Bool, true, false}
 use mathlib.Core.List.{[], ◌∷◌}
 use lib.IntN.{ℤ, pos, negsuc}
-use Rattle.records.specs.declared.Check.{Check}
-use Rattle.records.specs.declared.Check.TheVariants.{Pass, Fail}
+use Rattle.records.specs.CheckOrder.{Check, Pass, Fail, first_bad, first_of}
 use Rattle.records.specs.declared.Kind.TheVariants.{Lent, RecordValue, CalmAngle}
-use Rattle.records.specs.CheckOrder.{first_bad, first_of}
-use Rattle.records.specs.Groups.{wholes, station_at, point_at, row_at}
+use Rattle.records.specs.Groups.{wholes, group_at}
 use Rattle.records.specs.Limits.{inside, range_inside, count_ok, head_ok, station_ok, seconds_ok, point_ok, calm_ok, row_ok}
 use Rattle.records.specs.Refusals.{refusal}
 use Rattle.records.specs.Shapes.{storm, traverse}
@@ -29,17 +27,17 @@ later = checked true (pos 600) (pos 0)
 
 -- a wind of 0 with angle 0 passes, and so does every other wind with any angle
 calms : later (pos 0) (pos 0) (pos 0) (pos 0) ≡ Pass
-unfolding first_of first_bad checks_of traverse_checks lent_checks record_checks wholes station_at point_at row_at inside range_inside count_ok head_ok station_ok spacing_ok places_ok row_ok times_ok seconds_ok point_ok calm_ok
+unfolding first_of first_bad checks_of traverse_checks lent_checks record_checks wholes group_at inside range_inside count_ok head_ok station_ok spacing_ok places_ok row_ok times_ok seconds_ok point_ok calm_ok
 calms = refl
 
 -- the first of two calms that have a direction; and the second where the first has none
 two-calms : (later (pos 0) (pos 1) (pos 0) (pos 3599) ∷ later (pos 0) (pos 0) (pos 0) (pos 3599) ∷ []) ≡ (Fail (refusal CalmAngle 1) ∷ Fail (refusal CalmAngle 2) ∷ [])
-unfolding first_of first_bad checks_of traverse_checks lent_checks record_checks wholes station_at point_at row_at inside range_inside count_ok head_ok station_ok spacing_ok places_ok row_ok times_ok seconds_ok point_ok calm_ok
+unfolding first_of first_bad checks_of traverse_checks lent_checks record_checks wholes group_at inside range_inside count_ok head_ok station_ok spacing_ok places_ok row_ok times_ok seconds_ok point_ok calm_ok
 two-calms = refl
 
 -- a first record's calms are judged too
 first-record : checked false (pos 0) (pos 0) (pos 700) (pos 900) (pos 0) (pos 900) ≡ Fail (refusal CalmAngle 2)
-unfolding first_of first_bad checks_of traverse_checks lent_checks record_checks wholes station_at point_at row_at inside range_inside count_ok head_ok station_ok spacing_ok places_ok row_ok times_ok seconds_ok point_ok calm_ok
+unfolding first_of first_bad checks_of traverse_checks lent_checks record_checks wholes group_at inside range_inside count_ok head_ok station_ok spacing_ok places_ok row_ok times_ok seconds_ok point_ok calm_ok
 first-record = refl
 
 -- two faults at once: check 9 comes first, at a later point, at the same point (angle 3600) and with place 0 (seconds); and check 8 before both
@@ -47,5 +45,5 @@ pairs :
     (later (pos 0) (pos 5) (pos 2001) (pos 0) ∷ later (pos 0) (pos 3600) (pos 0) (pos 5) ∷ checked true (pos 3601) (pos 0) (pos 0) (pos 5) (pos 0) (pos 0)
     ∷ checked true (pos 600) (pos 1) (pos 0) (pos 5) (negsuc 0) (pos 0) ∷ [])
     ≡ (Fail (refusal RecordValue 2) ∷ Fail (refusal RecordValue 1) ∷ Fail (refusal RecordValue 0) ∷ Fail (refusal Lent 2) ∷ [])
-unfolding first_of first_bad checks_of traverse_checks lent_checks record_checks wholes station_at point_at row_at inside range_inside count_ok head_ok station_ok spacing_ok places_ok row_ok times_ok seconds_ok point_ok calm_ok
+unfolding first_of first_bad checks_of traverse_checks lent_checks record_checks wholes group_at inside range_inside count_ok head_ok station_ok spacing_ok places_ok row_ok times_ok seconds_ok point_ok calm_ok
 pairs = refl

@@ -12,14 +12,12 @@ use lib.Signed.{le_z, ◌≤ℤ◌}
 use Rattle.ranges.specs.Bounds.{Sized}
 use Rattle.ranges.proofs.Branches.{le-true}
 use Rattle.ranges.proofs.LinearSolver.{zomega, says, ◌&◌}
-use Rattle.records.specs.declared.Check.{Check}
-use Rattle.records.specs.declared.Check.TheVariants.{Pass}
+use Rattle.records.specs.CheckOrder.{Check, Pass, ◌then◌, first_of, AllPass}
 use Rattle.records.specs.declared.Station.{Station}
 use Rattle.records.specs.declared.Point.{Point}
 use Rattle.records.specs.declared.Row.{Row}
 use Rattle.records.specs.declared.Kind.TheVariants.{Points, TraverseValue, Distance, Lent, RecordValue, CalmAngle}
 use Rattle.records.specs.Refusals.{refusal}
-use Rattle.records.specs.CheckOrder.{◌then◌, first_of, AllPass}
 use Rattle.records.specs.Groups.{station_at, point_count, point_at, row_count, row_at}
 use Rattle.records.specs.Rows.{row_flux}
 use Rattle.records.specs.Shapes.{Traverse, Record, count}

@@ -3,9 +3,8 @@ use mathlib.Core.Path.{◌≡◌, refl, ap}
 use mathlib.Core.Bool.{Bool, true, false, cond}
 use native.Mathlib.Omega.{arith}
 use Prim.Native.Nat.{ℕ}
-use Rattle.records.specs.declared.Check.{Check}
-use Rattle.records.specs.declared.Check.TheVariants.{Pass, Fail}
-use Rattle.records.specs.CheckOrder.{AllPass}
+use Rattle.std.specs.Prelude.{Ok, Err}
+use Rattle.records.specs.CheckOrder.{Check, AllPass}
 use Rattle.records.proofs.CheckOrderLaws.{first-passed, first-pass, first-fails, all-or-first}
 use Rattle.march.specs.Checks.{traverse_checks, open_of, checks, check_of}
 use Rattle.march.specs.March.{March, stopped, done}
@@ -35,9 +34,9 @@ accepted-exactly g = record {
     never e = let z : ◌≡◌ {A = ℕ} 0 1 = ap (λ (b : Bool). cond b 1 0) e in omega arith
 
     go : (k : Check) (m : March) → check_of g ≡ k → march_given g ≡ m → is_accepted (after_checks (check_of g) g).answer ≡ true → AllPass (checks g) × Marches g
-    go (Fail refusal) m e f a = absurd (never (rw e at a))
-    go Pass (stopped refusal) e f a = absurd (never (rw (e, f) at a))
-    go Pass (done legs) e f a = (first-passed (checks g) e, record { legs = legs; is = f })
+    go (Err refusal) m e f a = absurd (never (rw e at a))
+    go (Ok _) (stopped refusal) e f a = absurd (never (rw (e, f) at a))
+    go (Ok _) (done legs) e f a = (first-passed (checks g) e, record { legs = legs; is = f })
 
 pub demand1 : Demand1
 demand1 = (opened-exactly, accepted-exactly)

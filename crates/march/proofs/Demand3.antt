@@ -8,6 +8,7 @@ use Prim.Native.Nat.{ℕ, zero, suc, ◌+◌, ◌-◌, ◌≤◌, ◌<◌}
 use lib.Dec.{eqb}
 use lib.ListN.{length, get_or}
 use lib.IntN.{ℤ, pos}
+use Rattle.std.specs.Prelude.{Ok, Err}
 use Rattle.ranges.specs.declared.Range.{Range}
 use Rattle.ranges.specs.Fraction.{whole}
 use Rattle.ranges.specs.Range.{Within}
@@ -16,10 +17,8 @@ use Rattle.records.specs.declared.Refusal.{Refusal}
 use Rattle.records.specs.Rows.{row_flux}
 use Rattle.records.specs.Shapes.{Traverse, Record}
 use Rattle.records.proofs.GroupLaws.{groups-list, row-flat}
-use Rattle.records.specs.declared.Check.{Check}
-use Rattle.records.specs.declared.Check.TheVariants.{Pass, Fail}
+use Rattle.records.specs.CheckOrder.{Check}
 use Rattle.segment.specs.declared.Leg.{Leg}
-use Rattle.segment.specs.declared.SegmentAnswer.TheVariants.{On}
 use Rattle.segment.specs.Segment.{segment_of, segment_setup, SiteIn, WeatherIn}
 use Rattle.segment.specs.ExactSegment.{SegmentWithin}
 use Rattle.segment.proofs.SegmentLaws.{Passed as SegmentPassed, segment-on}
@@ -50,7 +49,7 @@ module _ (t : Traverse) (r : Record) (rows : List ℤ) (x : Exact) (legs : List 
   all = march-done (segment_at t r (not x.started) rows) (segments t) 0 no_setup legs e
 
   abbrev On-at : ℕ → Range → Type 0
-  On-at i s = segment_of (i + 1) (not x.started) (site_at t i) (weather_at t r i) (working_row t (not x.started) rows i) s ≡ On (get_or legs i no_leg)
+  On-at i s = segment_of (i + 1) (not x.started) (site_at t i) (weather_at t r i) (working_row t (not x.started) rows i) s ≡ Ok (get_or legs i no_leg)
 
   on-into : (i : ℕ) → i < segments t → On-at i (setup_into no_setup legs i)
   unfolding segment_at
@@ -183,8 +182,8 @@ module _ (g : Given) (x : Exact) (inside : Inside g.traverse g.state g.rows x) w
   by-march (done legs) e i = accepted-sound legs (rw inside.same e) i
 
   by-check : (k : Check) → check_of g ≡ k → Sound (after_checks k g)
-  by-check (Fail refusal) e = refused-sound refusal
-  by-check Pass e = by-march (march_given g) refl (march-in g.most g.traverse g.storm g.state g.rows (length g.setup) (passed g.most g.traverse g.storm g.state g.rows (length g.setup) e))
+  by-check (Err refusal) e = refused-sound refusal
+  by-check (Ok _) e = by-march (march_given g) refl (march-in g.most g.traverse g.storm g.state g.rows (length g.setup) (passed g.most g.traverse g.storm g.state g.rows (length g.setup) e))
 
   call-sound : Sound (take_of g)
   unfolding take_of

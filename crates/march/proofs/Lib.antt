@@ -1,7 +1,6 @@
 -- The laws that the proofs of `march` and of the crates above cite.
 pub mod Cases
 pub mod ChecksPassed
-pub mod LegLaws
 pub mod MarchFits
 pub mod MarchLaws
 pub mod MarchSteps

@@ -3,8 +3,8 @@ use mathlib.Core.Path.{◌≡◌, refl, sym, ap, ◌∙◌}
 use mathlib.Core.Bool.{cond}
 use mathlib.Core.List.{[], ◌∷◌}
 use lib.IntN.{ℤ, pos, ◌+ℤ◌, +ℤ_assoc, +ℤ_idr}
-use Rattle.records.specs.declared.Check.{Check}
-use Rattle.records.specs.declared.Check.TheVariants.{Pass, Fail}
+use Rattle.std.specs.Prelude.{Ok, Err}
+use Rattle.records.specs.CheckOrder.{Check}
 use Rattle.march.specs.Given.{Given}
 use Rattle.march.specs.Checks.{check_of}
 use Rattle.march.specs.March.{March, stopped, done}
@@ -23,8 +23,8 @@ module _ (g : Given) where
   by-march (done legs) = refl
 
   by-check : (k : Check) → Adds (after_checks k g)
-  by-check (Fail refusal) = sym (+ℤ_idr g.state.elapsed)
-  by-check Pass = by-march (march_given g)
+  by-check (Err refusal) = sym (+ℤ_idr g.state.elapsed)
+  by-check (Ok _) = by-march (march_given g)
 
   adds : Adds (take_of g)
   unfolding take_of

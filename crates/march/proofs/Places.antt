@@ -9,6 +9,7 @@ use Prim.Native.Nat.{ℕ, zero, suc, ◌+◌, ◌-◌, ◌≤◌}
 use lib.Dec.{eqb}
 use lib.ListN.{length}
 use lib.IntN.{ℤ}
+use Rattle.std.specs.Prelude.{Result, Ok, Err}
 use Rattle.ranges.specs.declared.Range.{Range}
 use Rattle.records.specs.declared.Row.{Row}
 use Rattle.records.specs.declared.Kind.{Kind}
@@ -18,14 +19,10 @@ use Rattle.records.specs.Refusals.{refusal}
 use Rattle.records.specs.Groups.{point_count, row_count}
 use Rattle.records.specs.Shapes.{Traverse, Record, count}
 use Rattle.records.specs.Limits.{count_ok, head_ok, water_ok, flux_ok, setup_ok}
-use Rattle.records.specs.declared.Check.{Check}
-use Rattle.records.specs.declared.Check.TheVariants.{Pass, Fail}
-use Rattle.records.specs.CheckOrder.{need, ◌then◌, each, first_bad, first_of}
+use Rattle.records.specs.CheckOrder.{Check, Pass, Fail, need, ◌then◌, each, first_bad, first_of}
 use Rattle.segment.specs.declared.Leg.{Leg}
 use Rattle.segment.specs.declared.Site.{Site}
 use Rattle.segment.specs.declared.Weather.{Weather}
-use Rattle.segment.specs.declared.SegmentAnswer.{SegmentAnswer}
-use Rattle.segment.specs.declared.SegmentAnswer.TheVariants.{On, Stop}
 use Rattle.segment.specs.Segment.{segment_of, segment_depth, segment_flux, segment_setup, leg_of}
 use Rattle.march.specs.declared.State.{State}
 use Rattle.march.specs.Answers.{accepted, refused, opened, not_opened, told_open}
@@ -38,8 +35,8 @@ use Rattle.march.specs.Take.{march_given, after_checks, after_march, take_of}
 -- ---- places up to b
 
 abbrev AtMost : ℕ → Check → Type 0
-AtMost b Pass = 0 ≤ b
-AtMost b (Fail refusal) = refusal.place ≤ b
+AtMost b (Ok _) = 0 ≤ b
+AtMost b (Err refusal) = refusal.place ≤ b
 
 bad-at : (ok : ℕ → Bool) (n i : ℕ) → first_bad ok n i ≤ i + n
 unfolding first_bad
@@ -59,8 +56,8 @@ module _ (b : ℕ) where
   need-at false r h = h
 
   then_at : (k l : Check) → AtMost b k → AtMost b l → AtMost b (k then l)
-  then_at Pass l h g = g
-  then_at (Fail r) l h g = h
+  then_at (Ok _) l h g = g
+  then_at (Err r) l h g = h
 
   each_at : (kind : Kind) (ok : ℕ → Bool) (n : ℕ) → n ≤ b → AtMost b (each kind ok n)
   each_at kind ok n h =
@@ -132,16 +129,16 @@ module _ (b : ℕ) where
   MarchAt (stopped r) = r.place ≤ b
   MarchAt (done legs) = 0 ≤ b
 
-  abbrev AnswerAt : ℕ → SegmentAnswer → Type 0
-  AnswerAt place (On leg) = 0 ≤ b
-  AnswerAt place (Stop r) = r.place ≡ place
+  abbrev AnswerAt : ℕ → Result Leg Refusal → Type 0
+  AnswerAt place (Ok leg) = 0 ≤ b
+  AnswerAt place (Err r) = r.place ≡ place
 
   segment-is : (place : ℕ) (first : Bool) (a : Site) (w : Weather) (v : Row) (s : Range) → AnswerAt place (segment_of place first a w v s)
   unfolding segment_of
   segment-is place first a w v s =
       by (water_ok (segment_depth a w s)) (flux_ok (segment_flux first a w v s)) (setup_ok (segment_setup first a w v s)) (leg_of (segment_flux first a w v s) w.cross (segment_setup first a w v s))
     where
-      by : (d f u : Bool) (leg : Leg) → AnswerAt place (cond d (cond f (cond u (On leg) (Stop (refusal Setup place))) (Stop (refusal Flux place))) (Stop (refusal Depth place)))
+      by : (d f u : Bool) (leg : Leg) → AnswerAt place (cond d (cond f (cond u (Ok leg) (Err (refusal Setup place))) (Err (refusal Flux place))) (Err (refusal Depth place)))
       by true true true leg = omega arith
       by true true false leg = refl
       by true false u leg = refl
@@ -155,31 +152,31 @@ module _ (b : ℕ) where
   before_at leg (stopped r) h = h
   before_at leg (done legs) h = omega arith
 
-  march-at : (segment : ℕ → Range → SegmentAnswer) → ((i : ℕ) (s : Range) → AnswerAt (i + 1) (segment i s)) → (k i : ℕ) (s : Range) → i + k ≤ b → MarchAt (march_by segment k i s)
+  march-at : (segment : ℕ → Range → Result Leg Refusal) → ((i : ℕ) (s : Range) → AnswerAt (i + 1) (segment i s)) → (k i : ℕ) (s : Range) → i + k ≤ b → MarchAt (march_by segment k i s)
   unfolding march_by
   march-at segment e zero i s h = omega arith
   march-at segment e (suc k) i s h = by (λ z. march-at segment e k (i + 1) z (omega arith)) (segment i s) (e i s)
     where
-      by : ((z : Range) → MarchAt (march_by segment k (i + 1) z)) → (x : SegmentAnswer) → AnswerAt (i + 1) x → MarchAt (further x (march_by segment k (i + 1)))
-      by rest (On leg) q = before_at leg (march_by segment k (i + 1) leg.setup) (rest leg.setup)
-      by rest (Stop r) q = rw q (omega arith)
+      by : ((z : Range) → MarchAt (march_by segment k (i + 1) z)) → (x : Result Leg Refusal) → AnswerAt (i + 1) x → MarchAt (further x (march_by segment k (i + 1)))
+      by rest (Ok leg) q = before_at leg (march_by segment k (i + 1) leg.setup) (rest leg.setup)
+      by rest (Err r) q = rw q (omega arith)
 
   -- ---- the answers
 
   open_at : (k : Check) → AtMost b k → (number place : ℕ) → told_open k ≡ not_opened number place → place ≤ b
-  open_at Pass h number place e = absurd (never e)
+  open_at (Ok _) h number place e = absurd (never e)
     where
       never : opened ≡ not_opened number place → ⊥
       never e = let z : ◌≡◌ {A = ℕ} 0 1 = cc in omega arith
-  open_at (Fail r) h number place e = let q : r.place ≡ place = cc in omega arith
+  open_at (Err r) h number place e = let q : r.place ≡ place = cc in omega arith
 
   march-told : (m : March) → MarchAt m → (g : Given) (number place : ℕ) → (after_march m g).answer ≡ refused number place → place ≤ b
   march-told (stopped r) h g number place e = let q : r.place ≡ place = cc in omega arith
   march-told (done legs) h g number place e = absurd (never-refused _ _ _ _ _ e)
 
   take-told : (k : Check) → AtMost b k → (g : Given) (number place : ℕ) → count g.traverse ≤ b → (after_checks k g).answer ≡ refused number place → place ≤ b
-  take-told (Fail r) h g number place c e = let q : r.place ≡ place = cc in omega arith
-  take-told Pass h g number place c e =
+  take-told (Err r) h g number place c e = let q : r.place ≡ place = cc in omega arith
+  take-told (Ok _) h g number place c e =
       march-told (march_given g)
       (march-at (segment_at g.traverse g.storm (not g.state.started) g.rows) (answer_at g.traverse g.storm (not g.state.started) g.rows) (segments g.traverse) 0 no_setup (omega arith)) g number place e
 
@@ -204,5 +201,5 @@ wrong-rows most t r st rows places h = checks-are most t r st rows places ∙ by
     not-lent k = rw (ne_eqb (row_count rows) (count t - 1) k)
 
     by : (k : Check) → traverse_check most t ≡ k → (traverse_check most t then (lent_check (count t) (point_count r.points) rows places then record_check (count t) r st)) ≡ (traverse_check most t then Fail (refusal Lent 0))
-    by (Fail refusal) e = rw e
-    by Pass e = rw (e, not-lent (h e))
+    by (Err refusal) e = rw e
+    by (Ok _) e = rw (e, not-lent (h e))

@@ -1,20 +1,21 @@
--- What a call answers, in document 01's terms: for each case of the code's enums, this paper's number and values. The promises of the calls open
+-- What a call answers, in document 01's terms: for each case of the code's answers, this paper's number and values. The promises of the calls open
 -- to callers are stated with these.
-use Rattle.std.specs.Prelude.{ℕ, ℤ}
+use Rattle.std.specs.Prelude.{ℕ, ℤ, Result, Ok, Err}
+use Rattle.ranges.specs.declared.Range.{Range}
+use Rattle.records.specs.declared.Refusal.{Refusal}
 use Rattle.records.specs.Refusals.{number_of}
-use Rattle.records.specs.declared.Check.{Check}
-use Rattle.records.specs.declared.Check.TheVariants.{Pass, Fail}
-use Rattle.march.specs.declared.Answer.{Answer}
-use Rattle.march.specs.declared.Answer.TheVariants.{Accepted, Refused}
+use Rattle.records.specs.CheckOrder.{Check}
+use Rattle.march.specs.declared.State.{State}
 
 -- a record: elapsed seconds, low and high of the shore height; or the refusal's number and place
 pub data Told : Type 0 where
   accepted : ℤ → ℤ → ℤ → Told
   refused : ℕ → ℕ → Told
 
-abbrev pub told_of : Answer → Told
-told_of (Accepted elapsed low high) = accepted elapsed low high
-told_of (Refused refusal) = refused (number_of refusal.kind) refusal.place
+-- the code answers the height; the elapsed seconds are those of the state after it
+abbrev pub told_of : Result Range Refusal → State → Told
+told_of (Ok height) st = accepted st.elapsed height.low height.high
+told_of (Err refusal) st = refused (number_of refusal.kind) refusal.place
 
 -- a traverse
 pub data ToldOpen : Type 0 where
@@ -22,5 +23,5 @@ pub data ToldOpen : Type 0 where
   not_opened : ℕ → ℕ → ToldOpen
 
 abbrev pub told_open : Check → ToldOpen
-told_open Pass = opened
-told_open (Fail refusal) = not_opened (number_of refusal.kind) refusal.place
+told_open (Ok _) = opened
+told_open (Err refusal) = not_opened (number_of refusal.kind) refusal.place

@@ -1,17 +1,16 @@
 -- The checks of a traverse and of a record, in their order: each is a line of a list here, as it is a row of document 01's table "Where each check
 -- is made". "Checks run down the table, earliest point or row first." A check that a later request brings is a line more.
-use Rattle.std.specs.Prelude.{Bool, false, ◌&&◌, ◌||◌, not, List, [], ◌∷◌, ◌++◌, ℕ, ◌+◌, ◌-◌, ◌*◌, eqb, length, ℤ, pos, ◌+ℤ◌, ◌-ℤ◌}
-use Rattle.records.specs.declared.Check.{Check}
+use Rattle.std.specs.Prelude.{Bool, false, ◌&&◌, ◌||◌, not, List, [], ◌∷◌, ◌++◌, ℕ, ◌+◌, ◌-◌, ◌*◌, eqb, length, ℤ, pos, ◌+ℤ◌, ◌-ℤ◌, Result, Ok, Err}
 use Rattle.records.specs.declared.Closing.{Closing}
+use Rattle.records.specs.declared.Refusal.{Refusal}
 use Rattle.records.specs.declared.Kind.TheVariants.{Points, TraverseValue, Distance, Lent, RecordValue, CalmAngle}
 use Rattle.records.specs.Refusals.{refusal}
-use Rattle.records.specs.CheckOrder.{need, each, first_of}
+use Rattle.records.specs.CheckOrder.{Check, need, each, first_of}
 use Rattle.records.specs.Groups.{station_at, point_count, point_at, row_count, row_at}
 use Rattle.records.specs.Shapes.{Traverse, Record, count}
 use Rattle.records.specs.Limits.{count_ok, head_ok, station_ok, length_ok, shore_ok, row_ok, seconds_ok, tide_ok, elapsed_ok, point_ok, calm_ok}
 use Rattle.march.specs.declared.State.{State}
-use Rattle.march.specs.declared.Opened.{Opened}
-use Rattle.march.specs.Answers.{ToldOpen, told_open}
+use Rattle.march.specs.Answers.{ToldOpen, opened, told_open}
 use Rattle.march.specs.Given.{Given}
 
 -- ---- a traverse
@@ -51,9 +50,10 @@ pub record LeftOpen : Type 0 where
 unfoldable pub open_of : ℕ → Traverse → LeftOpen
 open_of most t = record { answer = told_open (traverse_check most t); state = fresh_state }
 
--- what the code answers
-abbrev pub opened_by : Opened → LeftOpen
-opened_by o = record { answer = told_open o.check; state = o.state }
+-- what the code answers: the state where it opens, and none where it is refused
+abbrev pub opened_by : Result State Refusal → LeftOpen
+opened_by (Ok st) = record { answer = opened; state = st }
+opened_by (Err refusal) = record { answer = told_open (Err refusal); state = fresh_state }
 
 -- ---- what is lent with a record
 

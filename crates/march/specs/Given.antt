@@ -1,8 +1,7 @@
 -- What a call of the march is given: the numbers that the caller lends, and the small structs beside them. A new argument comes in here.
 use Rattle.std.specs.Prelude.{List, ℕ, ◌-◌, ℤ}
-use Rattle.records.specs.Shapes.{Traverse, Record, traverse, storm, count}
+use Rattle.records.specs.Shapes.{Traverse, Record, count}
 use Rattle.march.specs.declared.State.{State}
-use Rattle.march.specs.declared.Call.{Call}
 
 -- how many segments a traverse has
 abbrev pub segments : Traverse → ℕ
@@ -20,12 +19,5 @@ pub record Given : Type 0 where
   pub setup : List ℤ
 
 -- by the code's arguments
-abbrev pub given : ℕ → Call → List ℤ → List ℤ → List ℤ → List ℤ → Given
-given most call points winds rows setup = record {
-  most = most;
-  traverse = traverse call.head points;
-  storm = storm call.closing winds;
-  state = call.state;
-  rows = rows;
-  setup = setup;
-}
+abbrev pub given : ℕ → Traverse → Record → State → List ℤ → List ℤ → Given
+given most t r st rows setup = record { most = most; traverse = t; storm = r; state = st; rows = rows; setup = setup }

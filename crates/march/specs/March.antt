@@ -1,9 +1,6 @@
 -- A step of the march: the segments worked from sea to shore. A record is one step.
-use Rattle.std.specs.Prelude.{Bool, cond, List, [], ◌∷◌, ℕ, zero, suc, ◌+◌, ◌*◌, ℤ, pos, ◌+ℤ◌, ◌-ℤ◌}
-use Rattle.std.proofs.lemmas.List.Edits.{sets}
+use Rattle.std.specs.Prelude.{Bool, cond, List, [], ◌∷◌, ℕ, zero, suc, ◌+◌, ℤ, pos, ◌+ℤ◌, ◌-ℤ◌, Result, Ok, Err}
 use Rattle.ranges.specs.declared.Range.{Range}
-use Rattle.records.specs.declared.Check.{Check}
-use Rattle.records.specs.declared.Check.TheVariants.{Pass, Fail}
 use Rattle.forcing.specs.Quadrant.{sine_of}
 use Rattle.forcing.specs.Stress.{cross_of, onshore_of}
 use Rattle.records.specs.declared.Head.{Head}
@@ -12,14 +9,13 @@ use Rattle.records.specs.declared.Station.{Station}
 use Rattle.records.specs.declared.Point.{Point}
 use Rattle.records.specs.declared.Row.{Row}
 use Rattle.records.specs.declared.Refusal.{Refusal}
-use Rattle.records.specs.Groups.{at, station_at, point_at, row_at, groups}
+use Rattle.records.specs.CheckOrder.{Check}
+use Rattle.records.specs.Groups.{station_at, point_at, row_at}
 use Rattle.records.specs.Rows.{fresh_row}
 use Rattle.records.specs.Shapes.{Traverse, Record}
 use Rattle.segment.specs.declared.Site.{Site}
 use Rattle.segment.specs.declared.Weather.{Weather}
 use Rattle.segment.specs.declared.Leg.{Leg}
-use Rattle.segment.specs.declared.SegmentAnswer.{SegmentAnswer}
-use Rattle.segment.specs.declared.SegmentAnswer.TheVariants.{On, Stop}
 use Rattle.segment.specs.Segment.{segment_of}
 use Rattle.march.specs.declared.End.{End}
 use Rattle.march.specs.declared.Setting.{Setting}
@@ -85,16 +81,16 @@ before leg (stopped refusal) = stopped refusal
 before leg (done legs) = done (leg ∷ legs)
 
 -- a segment that passed hands its setup on to the next
-abbrev pub further : SegmentAnswer → (Range → March) → March
-further (On leg) rest = before leg (rest leg.setup)
-further (Stop refusal) rest = stopped refusal
+abbrev pub further : Result Leg Refusal → (Range → March) → March
+further (Ok leg) rest = before leg (rest leg.setup)
+further (Err refusal) rest = stopped refusal
 
 -- k segments from segment i on, whatever a segment does
-unfoldable pub march_by : (ℕ → Range → SegmentAnswer) → ℕ → ℕ → Range → March
+unfoldable pub march_by : (ℕ → Range → Result Leg Refusal) → ℕ → ℕ → Range → March
 march_by segment zero i s = done []
 march_by segment (suc k) i s = further (segment i s) (march_by segment k (i + 1))
 
-unfoldable pub segment_at : Traverse → Record → Bool → List ℤ → ℕ → Range → SegmentAnswer
+unfoldable pub segment_at : Traverse → Record → Bool → List ℤ → ℕ → Range → Result Leg Refusal
 segment_at t r first rows i s = segment_of (i + 1) first (site_at t i) (weather_at t r i) (working_row t first rows i) s
 
 -- "S before segment 1 being the range 0 to 0"
@@ -140,27 +136,10 @@ abbrev pub chosen_row : Bool → Row → Row
 chosen_row first row = cond first fresh_row row
 
 -- the segment numbered `place` between two ends
-abbrev pub segment_between : ℕ → Setting → End → End → Row → Range → SegmentAnswer
+abbrev pub segment_between : ℕ → Setting → End → End → Row → Range → Result Leg Refusal
 segment_between place k a b row s = segment_of place k.first (site_between k a b) (weather_between k a b) (chosen_row k.first row) s
-
--- ---- the scratch: five numbers a segment, its new row and the setup after it
-
-unfoldable pub leg_at : List ℤ → ℕ → Leg
-leg_at l i = record {
-  row = record { low = at l (5 * i); high = at l (5 * i + 1); cross = at l (5 * i + 2) };
-  setup = record { low = at l (5 * i + 3); high = at l (5 * i + 4) };
-}
-
-abbrev pub of_leg : Leg → List ℤ
-of_leg g = g.row.low ∷ g.row.high ∷ g.row.cross ∷ g.setup.low ∷ g.setup.high ∷ []
-
-unfoldable pub put_leg : List ℤ → ℕ → Leg → List ℤ
-put_leg l i g = sets l (5 * i) (of_leg g)
-
-abbrev pub legs_of : List ℤ → ℕ → List Leg
-legs_of work = groups (leg_at work)
 
 -- what the code answers: whether it came through, and the legs that its scratch holds
 abbrev pub marched : Check → List Leg → March
-marched Pass legs = done legs
-marched (Fail refusal) legs = stopped refusal
+marched (Ok _) legs = done legs
+marched (Err refusal) legs = stopped refusal

@@ -1,17 +1,15 @@
 -- Taking a record: the answer, the state, every row and every setup place, for every input whatever.
-use Rattle.std.specs.Prelude.{true, cond, not, List, [], ◌-◌, eqb, length, get_or, ℤ, ◌+ℤ◌}
+use Rattle.std.specs.Prelude.{true, cond, not, List, [], ◌-◌, eqb, length, get_or, ℤ, ◌+ℤ◌, Result, Ok, Err}
 use Rattle.ranges.specs.declared.Range.{Range}
 use Rattle.records.specs.declared.Refusal.{Refusal}
 use Rattle.records.specs.Refusals.{number_of}
 use Rattle.records.specs.Groups.{point_at, of_row, of_range, flat}
 use Rattle.records.specs.Rows.{fresh_row}
 use Rattle.records.specs.Shapes.{Traverse, Record}
-use Rattle.records.specs.declared.Check.{Check}
-use Rattle.records.specs.declared.Check.TheVariants.{Pass, Fail}
+use Rattle.records.specs.CheckOrder.{Check}
 use Rattle.segment.specs.declared.Leg.{Leg}
 use Rattle.segment.specs.Segment.{shore_base}
 use Rattle.march.specs.declared.State.{State}
-use Rattle.march.specs.declared.Taken.{Taken}
 use Rattle.march.specs.Answers.{Told, accepted, refused, told_of}
 use Rattle.march.specs.Given.{Given, segments}
 use Rattle.march.specs.Checks.{check_of}
@@ -79,12 +77,12 @@ after_march (stopped refusal) g = left_refused g refusal
 after_march (done legs) g = left_accepted g legs
 
 abbrev pub after_checks : Check → Given → Left
-after_checks (Fail refusal) g = left_refused g refusal
-after_checks Pass g = after_march (march_given g) g
+after_checks (Err refusal) g = left_refused g refusal
+after_checks (Ok _) g = after_march (march_given g) g
 
 unfoldable pub take_of : Given → Left
 take_of g = after_checks (check_of g) g
 
 -- what the code answers and leaves
-abbrev pub left : Taken → List ℤ → List ℤ → Left
-left x rows setup = record { answer = told_of x.answer; state = x.state; rows = rows; setup = setup }
+abbrev pub left : Result Range Refusal → State → List ℤ → List ℤ → Left
+left answer st rows setup = record { answer = told_of answer st; state = st; rows = rows; setup = setup }

@@ -3,10 +3,10 @@
 // of them counts as none. Limits and refusals are document 01's; every call equals a definition of `specs/`.
 #![tactic(auto)]
 
-use records::{Check, Closing, Head, Refusal};
+ghost use Rattle.std.specs.Prelude.{◌≡◌};
+ghost use Rattle.march.specs.Checks.{fresh_state};
 
 mod checks;
-mod legs;
 mod march;
 mod take;
 
@@ -14,29 +14,26 @@ pub use checks::open_traverse;
 pub use take::take_record;
 
 // What is kept between two records beside the rows: the elapsed seconds, and whether a first record was accepted.
-#[derive(Clone, Copy)]
+#[derive(Clone, Copy, Debug, PartialEq, Eq)]
 pub struct State {
     pub elapsed: i64,
     pub started: bool,
 }
 
-// What a call that takes a record is given beside the lent numbers.
-#[derive(Clone, Copy)]
-pub struct Call {
-    pub head: Head,
-    pub closing: Closing,
-    pub state: State,
-}
-
-// What opening a traverse answers. Where it is refused, the state is that of a fresh traverse and of no use.
-#[derive(Clone, Copy)]
-pub struct Opened {
-    pub check: Check,
-    pub state: State,
+impl State {
+    // Of a fresh traverse.
+    pub fn fresh() -> Self
+        ensures { result ≡ fresh_state }
+    {
+        State {
+            elapsed: 0,
+            started: false,
+        }
+    }
 }
 
 // What is the same for every segment of a step.
-#[derive(Clone, Copy)]
+#[derive(Clone, Copy, Debug, PartialEq, Eq)]
 pub struct Setting {
     pub first: bool,
     pub sine: i64,
@@ -46,25 +43,11 @@ pub struct Setting {
 }
 
 // What a point gives to the two segments that end there: its place and depth, and the storm's deficit and stresses.
-#[derive(Clone, Copy)]
+#[derive(Clone, Copy, Debug, PartialEq, Eq)]
 pub struct End {
     pub distance: i64,
     pub depth: i64,
     pub deficit: i64,
     pub cross: i64,
     pub onshore: i64,
-}
-
-// What taking a record answers: the elapsed seconds and the shore height range in 0.0001 ft, or the refusal.
-#[derive(Clone, Copy)]
-pub enum Answer {
-    Accepted { elapsed: i64, low: i64, high: i64 },
-    Refused(Refusal),
-}
-
-// The answer with the new state. Where the record is refused, it is the state as it was.
-#[derive(Clone, Copy)]
-pub struct Taken {
-    pub answer: Answer,
-    pub state: State,
 }

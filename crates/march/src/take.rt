@@ -1,136 +1,118 @@
 // Taking a record: checks, march, and only then the commit to rows and setup places.
-ghost use Rattle.std.specs.Prelude.{◌≡◌, ◌*◌, ◌≤◌, length};
+ghost use Rattle.std.specs.Prelude.{◌≡◌, true, ◌*◌, ◌≤◌, ◌+ℤ◌, [], cond, eqb, length};
 ghost use Rattle.records.specs.Limits.{most_points};
-ghost use Rattle.records.specs.Shapes.{traverse, storm};
-ghost use Rattle.march.specs.Given.{given, segments};
-ghost use Rattle.march.specs.March.{legs_of};
-ghost use Rattle.march.specs.MarchBounds.{MarchIn};
+ghost use Rattle.records.specs.Shapes.{traverse_of, storm_of};
+ghost use Rattle.march.specs.Given.{given};
+ghost use Rattle.march.specs.Checks.{places_ok};
 ghost use Rattle.march.specs.Take.{row_numbers, setup_numbers, shore_of, take_of, left};
-ghost use Rattle.march.specs.TakeBounds.{most_segments, AcceptIn, accepted_by};
+ghost use Rattle.march.specs.TakeBounds.{most_segments, ShoreAt, AcceptIn};
 
+use super::State;
 use super::checks::check_all;
-use super::legs::{leg_at, store_setup};
 use super::march::march;
-use super::{Answer, Call, State, Taken};
-use records::groups::{point_at, store_row, whole_groups};
-use records::limits::POINTS_MOST;
-use records::{Check, Row};
+use ranges::Range;
+use records::groups::{count, fill, group_at};
+use records::limits::{POINTS_MOST, SEGMENTS_MOST};
+use records::{Point, Refusal, Row, StormRecord, Traverse};
+use segment::Leg;
 
-// The rows of n segments.
-pub fn commit_rows(rows: &mut [i64], work: &[i64], n: usize)
-    requires { (length rows.old ≡ 3 * n) × (5 * n ≤ length work.now) }
-    ensures { rows.new ≡ row_numbers (legs_of work.now n) }
+// The rows of the legs; and where places are lent, their setup ranges, low then high.
+pub fn commit(rows: &mut [i64], setup: &mut [i64], legs: &[Leg])
+    requires some { 1 ≤ length legs.now }
+    requires room { length rows.old ≡ 3 * length legs.now }
+    requires places { places_ok (length setup.old) (length legs.now) ≡ true }
+    ensures rows { rows.new ≡ row_numbers legs.now }
+    ensures setup { setup.new ≡ cond (eqb (length setup.old) 0) [] (setup_numbers legs.now) }
 {
-    let mut i = 0;
-    while i < n {
-        let leg = leg_at(work, i);
-        let row = leg.row;
-        store_row(rows, i, row);
-        i += 1;
-    }
-}
-
-// The setup ranges of k segments, low then high.
-pub fn commit_setup(setup: &mut [i64], work: &[i64], k: usize)
-    requires { (length setup.old ≡ 2 * k) × (5 * k ≤ length work.now) }
-    ensures { setup.new ≡ setup_numbers (legs_of work.now k) }
-{
-    let mut i = 0;
-    while i < k {
-        let leg = leg_at(work, i);
-        let range = leg.setup;
-        store_setup(setup, i, range);
-        i += 1;
-    }
+    fill(rows, legs.len(), |i| legs[i].row);
+    fill(setup, setup.len() / 2, |i| legs[i].setup);
 }
 
 // What the shore height has beside the setup, of n segments.
-pub fn shore_of(call: Call, points: &[i64], winds: &[i64], rows: &[i64], n: usize) -> i64
-    requires { (MarchIn (traverse call.head points.now) (storm call.closing winds.now) rows.now n) × (n ≡ segments (traverse call.head points.now)) }
-    ensures { result ≡ shore_of (traverse call.head points.now) (storm call.closing winds.now) }
+pub fn shore_of(traverse: Traverse, storm: StormRecord, n: usize) -> i64
+    requires { ShoreAt (traverse_of traverse) (storm_of storm) n }
+    ensures { result ≡ shore_of (traverse_of traverse.entry) (storm_of storm.entry) }
 {
-    let shore = point_at(winds, n);
-    let head = call.head;
-    let closing = call.closing;
-    segment::shore_base(head.initial + closing.tide, shore.deficit)
+    let shore = group_at::<Point>(storm.points, n);
+    segment::shore_base(traverse.head.initial + storm.closing.tide, shore.deficit)
 }
 
-// An accepted record of n segments: the elapsed time and the shore height.
-pub fn accepted(seconds: i64, base: i64, st: State, work: &[i64], n: usize) -> Taken
-    requires { AcceptIn seconds base st work.now n }
-    ensures { result ≡ accepted_by seconds base st work.now n }
+// A record is accepted: its seconds are added to the elapsed time, and the height at the shore is that with the last setup.
+pub fn accepted(state: &mut State, seconds: i64, base: i64, setup: Range) -> Range
+    requires { AcceptIn seconds base state.old setup }
+    ensures later { state.new ≡ record { elapsed = state.old.elapsed +ℤ seconds; started = true } }
+    ensures height { result ≡ record { low = setup.low +ℤ base; high = setup.high +ℤ base } }
 {
-    let elapsed = st.elapsed + seconds;
-    let last = leg_at(work, n - 1);
-    let range = last.setup;
-    Taken {
-        answer: Answer::Accepted {
-            elapsed: elapsed,
-            low: range.low + base,
-            high: range.high + base,
-        },
-        state: State {
-            elapsed: elapsed,
-            started: true,
-        },
+    *state = State {
+        elapsed: state.elapsed + seconds,
+        started: true,
+    };
+    Range {
+        low: setup.low + base,
+        high: setup.high + base,
     }
 }
 
 // Takes a record where a traverse may have `most` points, with scratch for as many segments as there can be.
 pub fn take_in(
     most: usize,
-    call: Call,
-    points: &[i64],
-    winds: &[i64],
+    traverse: Traverse,
+    storm: StormRecord,
+    state: &mut State,
     rows: &mut [i64],
     setup: &mut [i64],
-    work: &mut [i64],
-) -> Taken
-    requires { 5 * most_segments most rows.old ≤ length work.old }
-    ensures { left result rows.new setup.new ≡ take_of (given most call points.now winds.now rows.old setup.old) }
+    legs: &mut [Leg],
+) -> Result<Range, Refusal>
+    requires { most_segments most rows.old ≤ length legs.old }
+    ensures { left result state.new rows.new setup.new ≡ take_of (given most (traverse_of traverse.entry) (storm_of storm.entry) state.old rows.old setup.old) }
 {
-    let state = call.state;
-    let closing = call.closing;
-    let places = setup.len();
-    let check = check_all(most, call, points, winds, rows, places);
-    if let Check::Fail(refusal) = check {
-        return Taken {
-            answer: Answer::Refused(refusal),
-            state: state,
-        };
-    }
-    let n = whole_groups(Row::NUMBERS, rows.len());
-    let end = march(call, points, winds, rows, n, work);
-    if let Check::Fail(refusal) = end {
-        return Taken {
-            answer: Answer::Refused(refusal),
-            state: state,
-        };
-    }
-    let base = shore_of(call, points, winds, rows, n);
-    commit_rows(rows, work, n);
-    commit_setup(setup, work, places / 2);
-    accepted(closing.seconds, base, state, work, n)
+    check_all(most, traverse, storm, *state, rows, setup.len())?;
+    let n = count::<Row>(rows);
+    let first = !state.started;
+    let legs = &mut legs[..n];
+    march(traverse, storm, first, rows, legs)?;
+    let base = shore_of(traverse, storm, n);
+    commit(rows, setup, legs);
+    Ok(accepted(state, storm.closing.seconds, base, legs[n - 1].setup))
 }
 
-// The numbers of 8 rows.
-const FEW_ROWS: usize = 24;
-
-// Takes a record of a storm over a traverse: no setup places for Level B, two for each segment for Level C. Open to callers: every argument
-// may be anything whatever. Few segments get little scratch: to clear all of it would take longer than their march.
-pub fn take_record(
-    call: Call,
-    points: &[i64],
-    winds: &[i64],
+// Takes a record with scratch for N segments.
+fn take_with<const N: usize>(
+    traverse: Traverse,
+    storm: StormRecord,
+    state: &mut State,
     rows: &mut [i64],
     setup: &mut [i64],
-) -> Taken
-    ensures { left result rows.new setup.new ≡ take_of (given most_points call points.now winds.now rows.old setup.old) }
+) -> Result<Range, Refusal>
+    requires { (most_segments most_points rows.old ≤ N) × (N ≤ 64) }
+    ensures { left result state.new rows.new setup.new ≡ take_of (given most_points (traverse_of traverse.entry) (storm_of storm.entry) state.old rows.old setup.old) }
 {
-    if rows.len() <= FEW_ROWS {
-        let mut little = [0; 40];
-        return take_in(POINTS_MOST, call, points, winds, rows, setup, &mut little);
+    let none = Leg {
+        row: Row::fresh(),
+        setup: Range { low: 0, high: 0 },
+    };
+    let mut legs = [none; N];
+    take_in(POINTS_MOST, traverse, storm, state, rows, setup, &mut legs)
+}
+
+// Few segments get little scratch: to clear all of it would take longer than their march.
+const FEW_SEGMENTS: usize = 8;
+
+// Takes a record of a storm over a traverse: no setup places for Level B, two for each segment for Level C. It answers the shore height
+// range, 0.0001 ft, and the state then has the elapsed seconds; a refusal leaves the state and all that was lent as it was. Open to callers:
+// every argument may be anything whatever.
+pub fn take_record(
+    traverse: Traverse,
+    storm: StormRecord,
+    state: &mut State,
+    rows: &mut [i64],
+    setup: &mut [i64],
+) -> Result<Range, Refusal>
+    ensures { left result state.new rows.new setup.new ≡ take_of (given most_points (traverse_of traverse.entry) (storm_of storm.entry) state.old rows.old setup.old) }
+{
+    if count::<Row>(rows) <= FEW_SEGMENTS {
+        take_with::<FEW_SEGMENTS>(traverse, storm, state, rows, setup)
+    } else {
+        take_with::<SEGMENTS_MOST>(traverse, storm, state, rows, setup)
     }
-    let mut work = [0; 320];
-    take_in(POINTS_MOST, call, points, winds, rows, setup, &mut work)
 }

@@ -20,8 +20,7 @@ pub extern "C" fn probe_sine(angle: i64) -> i64
     requires { Angle angle }
     ensures { result ≡ sine_of angle }
 {
-    let table = forcing::sine_table();
-    forcing::sine(&table, angle)
+    forcing::sine(angle)
 }
 
 #[unsafe(no_mangle)]
@@ -29,8 +28,7 @@ pub extern "C" fn probe_cosine(angle: i64) -> i64
     requires { Angle angle }
     ensures { result ≡ cosine_of angle }
 {
-    let table = forcing::sine_table();
-    forcing::cosine(&table, angle)
+    forcing::cosine(angle)
 }
 
 // Numerator and square into two places.
@@ -40,10 +38,7 @@ pub extern "C" fn probe_coefficient(w: i64, out: &mut [i64])
     ensures { out.new ≡ parts_of (coefficient_of w) }
 {
     let k = forcing::coefficient(w);
-    let numerator = k.numerator;
-    let square = k.square;
-    out[0] = numerator;
-    out[1] = square;
+    out.copy_from_slice(&[k.numerator, k.square]);
 }
 
 #[unsafe(no_mangle)]
@@ -59,10 +54,7 @@ pub fn put(r: Range, out: &mut [i64])
     requires { length out.old ≡ 2 }
     ensures { out.new ≡ ends_of r }
 {
-    let low = r.low;
-    let high = r.high;
-    out[0] = low;
-    out[1] = high;
+    out.copy_from_slice(&[r.low, r.high]);
 }
 
 // The force of a later record.

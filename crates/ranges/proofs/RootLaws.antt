@@ -31,10 +31,10 @@ square-only {q} {a} {b} s t = omega (arith, below_root a t s.within, below_root 
 -- ---- by quarters
 
 module _ (q b : ℕ) (quarter : Square (q / 4) b) where
-  pub twice : q < (2 * b + 1) * (2 * b + 1) → Square q (2 * b)
+  twice : q < (2 * b + 1) * (2 * b + 1) → Square q (2 * b)
   twice h = record { within = omega arith; next = h }
 
-  pub twice-more : (2 * b + 1) * (2 * b + 1) ≤ q → Square q (2 * b + 1)
+  twice-more : (2 * b + 1) * (2 * b + 1) ≤ q → Square q (2 * b + 1)
   twice-more h = record { within = h; next = omega arith }
 
   or-more : Square q (or_more q (2 * b))

@@ -3,407 +3,243 @@
 // What the system's read delivers is taken for the file's bytes; what is printed is tested and not proved.
 #![tactic(auto)]
 
-ghost use Rattle.std.specs.Prelude.{◌≡◌, ◌-◌, ◌*◌, ◌<◌, ◌≤◌, length, nat_abs};
+ghost use Rattle.std.specs.Prelude.{◌≡◌, ℕ, ◌+◌, ◌-◌, ◌*◌, ◌<◌, ◌≤◌, length, IfOk, IsErrOf};
 ghost use Rattle.reader.specs.Storm.{record_size, longest_record};
-ghost use Rattle.read_files.specs.Standing.{Stands, Lent};
 
-use files::{Filled, Loaded};
-use reader::{Cursor, Lines, Next, RecordStep, StartStep};
-use records::groups::{point_at, station_at};
-use records::{Closing, Head, Point, Refusal, Station};
+use files::{Failed, Held, Stop, TURNS};
+use reader::{Cursor, Halt, TraverseRead, Window};
+use records::groups::{Group, group_at};
+use records::limits::POINTS_MOST;
+use records::{Closing, Point, Refusal, Station};
+use std::fmt;
+use std::fmt::Write;
 use std::fs::File;
 
-// ---- printing, by blocks of the lent buffer, of which `used` bytes wait
+// ---- printing
 
-// The place for the next byte: where the buffer is full, it is written first.
-fn room(out: &[u8], used: usize) -> usize
-    requires { (used ≤ length out.now) × (0 < length out.now) }
-    ensures { result < length out.now }
-{
-    if used < out.len() {
-        return used;
+// A line of what is printed.
+#[derive(Clone, Copy)]
+enum Line {
+    Traverse(TraverseRead),
+    Station(Station),
+    Record(Closing),
+    Point(Point),
+    Refused(Refusal),
+}
+
+impl fmt::Display for Line {
+    fn fmt<W: Write>(&self, f: &mut fmt::Formatter<W>) -> fmt::Result {
+        match self {
+            Line::Traverse(x) => {
+                let head = x.head;
+                write!(
+                    f,
+                    "traverse {} {} {} {}",
+                    head.latitude, head.friction, head.initial, x.count
+                )
+            }
+            Line::Station(x) => write!(f, "point {} {}", x.distance, x.depth),
+            Line::Record(x) => write!(f, "record {} {}", x.seconds, x.tide),
+            Line::Point(x) => write!(f, "point {} {} {}", x.wind, x.angle, x.deficit),
+            Line::Refused(x) => write!(f, "refused {} {}", x.number(), x.place),
+        }
     }
-    io::write_all(1, out);
-    0
 }
 
-fn put(out: &mut [u8], used: usize, b: u8) -> usize
-    requires { (used ≤ length out.old) × (0 < length out.old) }
-    ensures { result ≤ length out.new }
-{
-    let at = room(out, used);
-    out[at] = b;
-    at + 1
+// Standard output, by blocks of the lent buffer, of which `used` bytes wait.
+#[derive(Drop)]
+struct Out<'a> {
+    bytes: &'a mut [u8],
+    used: usize,
+    ghost some: { 0 < length bytes.now },
+    ghost waits: { used ≤ length bytes.now },
 }
 
-fn put_text(out: &mut [u8], used: usize, text: &[u8]) -> usize
-    requires { (used ≤ length out.old) × (0 < length out.old) }
-    ensures { result ≤ length out.new }
-{
-    let mut u = used;
-    let mut i = 0;
-    while i < text.len() {
-        u = put(out, u, text[i]);
-        i += 1;
+impl Write for Out<'_> {
+    // A full block is written before the next byte; one that cannot be is lost, and the last write, which tells its failure, fails too.
+    fn write_str(&mut self, s: &str) -> fmt::Result {
+        for b in s.as_bytes() {
+            if self.used == self.bytes.len() {
+                io::write_all(1, self.bytes);
+                self.used = 0;
+            }
+            self.bytes[self.used] = *b;
+            self.used += 1;
+        }
+        Ok(())
     }
-    u
 }
 
-fn put_digits(out: &mut [u8], used: usize, n: u64) -> usize
-    requires { (used ≤ length out.old) × (0 < length out.old) }
-    ensures { result ≤ length out.new }
-{
-    let mut digits = [0u8; 20];
-    let k = io::decimal(n, &mut digits);
-    put_text(out, used, &digits[..k])
-}
-
-// A space, and a count.
-fn put_count(out: &mut [u8], used: usize, n: u64) -> usize
-    requires { (used ≤ length out.old) × (0 < length out.old) }
-    ensures { result ≤ length out.new }
-{
-    let u = put(out, used, 32);
-    put_digits(out, u, n)
-}
-
-// The size of a value without its sign.
-fn magnitude(v: i64) -> u64
-    ensures { result ≡ nat_abs v }
-{
-    if v >= 0 {
-        return v as u64;
+impl Out<'_> {
+    // Prints a line; no byte is refused.
+    fn print(&mut self, line: Line) {
+        let _taken = writeln!(self, "{line}");
     }
-    let up = v + 1;
-    let size = 0 - up;
-    size as u64 + 1
-}
 
-// A space, and a value.
-fn put_value(out: &mut [u8], used: usize, v: i64) -> usize
-    requires { (used ≤ length out.old) × (0 < length out.old) }
-    ensures { result ≤ length out.new }
-{
-    let size = magnitude(v);
-    if v >= 0 {
-        return put_count(out, used, size);
+    // Writes what waits.
+    fn flush(&mut self, rt: &HostRuntime) {
+        let _told = files::flush(rt, &self.bytes[..self.used]);
     }
-    let u = put_text(out, used, b" -");
-    put_digits(out, u, size)
 }
 
-fn put_two(out: &mut [u8], used: usize, a: i64, b: i64) -> usize
-    requires { (used ≤ length out.old) × (0 < length out.old) }
-    ensures { result ≤ length out.new }
+// Prints a traverse, whose points were read into the lent numbers.
+fn print_traverse(out: &mut Out<'_>, traverse: TraverseRead, points: &[i64])
+    requires { 2 * traverse.count ≤ length points.now }
 {
-    let u = put_value(out, used, a);
-    put_value(out, u, b)
-}
-
-fn put_three(out: &mut [u8], used: usize, a: i64, b: i64, c: i64) -> usize
-    requires { (used ≤ length out.old) × (0 < length out.old) }
-    ensures { result ≤ length out.new }
-{
-    let u = put_two(out, used, a, b);
-    put_value(out, u, c)
-}
-
-fn put_station(out: &mut [u8], used: usize, x: Station) -> usize
-    requires { (used ≤ length out.old) × (0 < length out.old) }
-    ensures { result ≤ length out.new }
-{
-    let a = put_text(out, used, b"point");
-    let b = put_two(out, a, x.distance, x.depth);
-    put(out, b, 10)
-}
-
-fn put_point(out: &mut [u8], used: usize, x: Point) -> usize
-    requires { (used ≤ length out.old) × (0 < length out.old) }
-    ensures { result ≤ length out.new }
-{
-    let a = put_text(out, used, b"point");
-    let b = put_three(out, a, x.wind, x.angle, x.deficit);
-    put(out, b, 10)
-}
-
-fn put_refused(out: &mut [u8], used: usize, refusal: Refusal) -> usize
-    requires { (used ≤ length out.old) × (0 < length out.old) }
-    ensures { result ≤ length out.new }
-{
-    let place = refusal.place;
-    let a = put_text(out, used, b"refused");
-    let b = put_count(out, a, refusal.number());
-    let c = put_count(out, b, place as u64);
-    put(out, c, 10)
-}
-
-fn put_traverse(out: &mut [u8], used: usize, head: Head, n: usize) -> usize
-    requires { (used ≤ length out.old) × (0 < length out.old) }
-    ensures { result ≤ length out.new }
-{
-    let a = put_text(out, used, b"traverse");
-    let b = put_three(out, a, head.latitude, head.friction, head.initial);
-    let c = put_count(out, b, n as u64);
-    put(out, c, 10)
-}
-
-fn put_stations(out: &mut [u8], used: usize, points: &[i64], n: usize) -> usize
-    requires { (2 * n ≤ length points.now) × ((used ≤ length out.old) × (0 < length out.old)) }
-    ensures { result ≤ length out.new }
-{
-    let mut u = used;
-    let mut i = 0;
-    while i < n {
-        let x = station_at(points, i);
-        u = put_station(out, u, x);
-        i += 1;
+    out.print(Line::Traverse(traverse));
+    for i in 0..traverse.count {
+        out.print(Line::Station(group_at(points, i)));
     }
-    u
 }
 
-fn put_points(out: &mut [u8], used: usize, points: &[i64], n: usize) -> usize
-    requires { (3 * n ≤ length points.now) × ((used ≤ length out.old) × (0 < length out.old)) }
-    ensures { result ≤ length out.new }
+// Prints the record of n points that was read into the lent numbers.
+fn print_record(out: &mut Out<'_>, numbers: &[i64], n: usize)
+    requires { record_size n ≤ length numbers.now }
 {
-    let mut u = used;
-    let mut i = 0;
-    while i < n {
-        let x = point_at(points, i);
-        u = put_point(out, u, x);
-        i += 1;
+    out.print(Line::Record(group_at(numbers, 0)));
+    let points = &numbers[Closing::NUMBERS..];
+    for i in 0..n {
+        out.print(Line::Point(group_at(points, i)));
     }
-    u
-}
-
-// The record of n points that was read into the lent numbers.
-fn put_record(out: &mut [u8], used: usize, numbers: &[i64], n: usize) -> usize
-    requires { (record_size n ≤ length numbers.now) × ((used ≤ length out.old) × (0 < length out.old)) }
-    ensures { result ≤ length out.new }
-{
-    let end = Closing::NUMBERS + Point::NUMBERS * n;
-    let a = put_text(out, used, b"record");
-    let b = put_two(out, a, numbers[0], numbers[1]);
-    let c = put(out, b, 10);
-    put_points(out, c, &numbers[2..end], n)
 }
 
 // ---- the storm
 
-// How reading a storm stands: the cursor in the window, how many bytes of it hold text, whether the text ends with them,
-// how many bytes wait to be printed, and whether reading goes on.
-#[derive(Clone, Copy)]
-struct Reading {
-    c: Cursor,
-    have: usize,
-    last: bool,
-    used: usize,
-    on: bool,
-}
-
-// More of the file, where the window does not hold what comes next. Where the read fails, what waits is not printed.
-fn refilled(rt: &HostRuntime, file: &mut Option<File>, buf: &mut [u8], x: Reading) -> Reading
-    requires { Stands x (length buf.old) x.used × (x.have - x.c.at < length buf.old) }
-    ensures { Stands result (length buf.new) x.used }
+// Goes past the names line, where no line was read yet.
+fn past_names(cursor: Cursor, text: Window) -> Result<Cursor, Halt>
+    requires { cursor.at ≤ length text.bytes.now }
+    ensures inside { IfOk result (λ c. c.at ≤ length text.entry.bytes.now) }
+    ensures short { IsErrOf result Halt.More → length text.entry.bytes.now < 32 }
 {
-    let c = x.c;
-    match files::refill(rt, "storm.txt", file, buf, c.at, x.have) {
-        Filled::Failed => Reading {
-            c: Cursor {
-                at: 0,
-                line: c.line,
-            },
-            have: 0,
-            last: true,
-            used: 0,
-            on: false,
-        },
-        Filled::Holds(n, end) => Reading {
-            c: Cursor {
-                at: 0,
-                line: c.line,
-            },
-            have: n,
-            last: end,
-            used: x.used,
-            on: true,
-        },
+    if cursor.line == 0 {
+        return reader::storm_start_step(text);
     }
+    Ok(cursor)
 }
 
-// The names line, or more of the file.
-fn start_turn(
-    rt: &HostRuntime,
-    file: &mut Option<File>,
-    buf: &mut [u8],
-    x: Reading,
-    out: &mut [u8],
-) -> Reading
-    requires { Stands x (length buf.old) (length out.old) × ((0 < length out.old) × (longest_record ≤ length buf.old)) }
-    ensures { Stands result (length buf.new) (length out.new) }
-{
-    let old = x.c;
-    let have = x.have;
-    match reader::storm_start_step(&buf[..have], x.last) {
-        StartStep::More => refilled(rt, file, buf, x),
-        StartStep::Answer(answer) => match answer {
-            Lines::Read(c) => Reading {
-                c,
-                have,
-                last: x.last,
-                used: x.used,
-                on: true,
-            },
-            Lines::Refused(refusal) => Reading {
-                c: old,
-                have,
-                last: x.last,
-                used: put_refused(out, x.used, refusal),
-                on: false,
-            },
-        },
-    }
+// A storm's file, read through the lent window: how the window stands, and where reading stands in it.
+#[derive(Drop)]
+struct Storm<'a> {
+    file: Option<File>,
+    buf: &'a mut [u8],
+    window: Held,
+    cursor: Cursor,
+    ghost wide: { longest_record ≤ length buf.now },
+    ghost held: { window.have ≤ length buf.now },
+    ghost place: { cursor.at ≤ window.have },
 }
 
-// The next record, printed; or more of the file; or the end.
-fn record_turn(
-    rt: &HostRuntime,
-    file: &mut Option<File>,
-    buf: &mut [u8],
-    x: Reading,
-    n: usize,
-    numbers: &mut [i64],
-    out: &mut [u8],
-) -> Reading
-    requires { (record_size n ≤ length numbers.old) × (Stands x (length buf.old) (length out.old) × ((0 < length out.old) × (longest_record ≤ length buf.old))) }
-    ensures { Stands result (length buf.new) (length out.new) }
-{
-    let c = x.c;
-    let have = x.have;
-    match c.record_step(&buf[..have], x.last, n, numbers) {
-        RecordStep::More => refilled(rt, file, buf, x),
-        RecordStep::Answer(next) => match next {
-            Next::Read(d) => Reading {
-                c: d,
-                have,
-                last: x.last,
-                used: put_record(out, x.used, numbers, n),
-                on: true,
-            },
-            Next::End => Reading {
-                c,
-                have,
-                last: x.last,
-                used: x.used,
-                on: false,
-            },
-            Next::Refused(refusal) => Reading {
-                c,
-                have,
-                last: x.last,
-                used: put_refused(out, x.used, refusal),
-                on: false,
-            },
-        },
-    }
-}
-
-// One turn: the names line before any line was read, else the next record.
-fn turn(
-    rt: &HostRuntime,
-    file: &mut Option<File>,
-    buf: &mut [u8],
-    x: Reading,
-    n: usize,
-    numbers: &mut [i64],
-    out: &mut [u8],
-) -> Reading
-    requires { (record_size n ≤ length numbers.old) × (Stands x (length buf.old) (length out.old) × ((0 < length out.old) × (longest_record ≤ length buf.old))) }
-    ensures { Stands result (length buf.new) (length out.new) }
-{
-    let c = x.c;
-    if c.line == 0 {
-        return start_turn(rt, file, buf, x, out);
-    }
-    record_turn(rt, file, buf, x, n, numbers, out)
-}
-
-// Prints record after record, to the end or to the refusal, and answers how many bytes wait. The turns are counted down here too.
-fn print_storm(
-    rt: &HostRuntime,
-    file: &mut Option<File>,
-    buf: &mut [u8],
-    n: usize,
-    numbers: &mut [i64],
-    out: &mut [u8],
-    used: usize,
-) -> usize
-    requires { (record_size n ≤ length numbers.old) × ((used ≤ length out.old) × ((0 < length out.old) × (longest_record ≤ length buf.old))) }
-    ensures { result ≤ length out.new }
-{
-    let mut turns: u64 = 0x100_0000_0000_0000;
-    let mut x = Reading {
-        c: Cursor { at: 0, line: 0 },
-        have: 0,
-        last: !file.is_some(),
-        used,
-        on: true,
-    };
-    while turns > 0 {
-        turns -= 1;
-        x = turn(rt, file, buf, x, n, numbers, out);
-        if !x.on {
-            return x.used;
+impl<'a> Storm<'a> {
+    // Before the first byte.
+    fn open(rt: &HostRuntime, buf: &'a mut [u8]) -> Storm<'a>
+        requires { longest_record ≤ length buf.old }
+    {
+        let file = files::open(rt, "storm.txt");
+        let window = Held::before(&file);
+        Storm {
+            file,
+            buf,
+            window,
+            cursor: Cursor { at: 0, line: 0 },
         }
     }
-    0
+
+    // Reads the next record of n points, past the names line where that is next; false where the text ends here.
+    fn next(&mut self, n: usize, numbers: &mut [i64]) -> Result<bool, Halt>
+        requires { record_size n ≤ length numbers.old }
+        ensures { IsErrOf result Halt.More → self.new.window.have - self.new.cursor.at < length self.new.buf.now }
+    {
+        let text = Window {
+            bytes: &self.buf[..self.window.have],
+            last: self.window.last,
+        };
+        self.cursor = past_names(self.cursor, text)?;
+        match self.cursor.record_step(text, n, numbers)? {
+            Some(past) => {
+                self.cursor = past;
+                Ok(true)
+            }
+            None => Ok(false),
+        }
+    }
+
+    // More of the file, where the window does not hold what comes next.
+    fn refill(&mut self, rt: &HostRuntime) -> Result<(), Failed>
+        requires { self.old.window.have - self.old.cursor.at < length self.old.buf.now }
+    {
+        let at = self.cursor.at;
+        self.window = files::refill(
+            rt,
+            "storm.txt",
+            &mut self.file,
+            self.buf,
+            at,
+            self.window.have,
+        )?;
+        self.cursor.at = 0;
+        Ok(())
+    }
+}
+
+// Prints record after record, to the end or to the refusal.
+fn print_storm(
+    rt: &HostRuntime,
+    storm: &mut Storm<'_>,
+    n: usize,
+    numbers: &mut [i64],
+    out: &mut Out<'_>,
+) -> Result<(), Stop>
+    requires { record_size n ≤ length numbers.old }
+{
+    for _ in 0..TURNS {
+        match storm.next(n, numbers) {
+            Ok(true) => print_record(out, numbers, n),
+            Ok(false) => return Ok(()),
+            Err(Halt::More) => storm.refill(rt)?,
+            Err(Halt::Refused(refusal)) => return Err(Stop::Refused(refusal)),
+        }
+    }
+    Err(Stop::Failed)
 }
 
 // ---- the program
 
-// Prints the traverse of n points, and then the storm.
-fn print_run(
+// Prints the traverse, and then the storm.
+fn run(
     rt: &HostRuntime,
     buf: &mut [u8],
-    head: Head,
-    points: &[i64],
-    n: usize,
+    points: &mut [i64],
     numbers: &mut [i64],
-    out: &mut [u8],
-) -> usize
-    requires { (2 * n ≤ length points.now) × ((record_size n ≤ length numbers.old) × ((0 < length out.old) × (longest_record ≤ length buf.old))) }
-    ensures { result ≤ length out.new }
+    out: &mut Out<'_>,
+) -> Result<(), Stop>
+    requires window { longest_record ≤ length buf.old }
+    requires record_room { 197 ≤ length numbers.old }
 {
-    let a = put_traverse(out, 0, head, n);
-    let b = put_stations(out, a, points, n);
-    let mut file = files::open(rt, "storm.txt");
-    print_storm(rt, &mut file, buf, n, numbers, out, b)
-}
-
-fn run(rt: &HostRuntime, buf: &mut [u8], points: &mut [i64], numbers: &mut [i64], out: &mut [u8])
-    requires { Lent (length buf.old) (length points.old) (length numbers.old) (length out.old) }
-{
-    let file = files::read_traverse(rt, buf, points);
-    let answer = file.answer;
-    let head = file.head;
-    let n = file.count;
-    match answer {
-        Loaded::Failed => {}
-        Loaded::Refused(refusal) => {
-            let a = put_refused(out, 0, refusal);
-            files::flush(rt, out, a);
-        }
-        Loaded::Read => {
-            let a = print_run(rt, buf, head, points, n, numbers, out);
-            files::flush(rt, out, a);
-        }
-    }
+    let traverse = files::read_traverse(rt, buf, points)?;
+    print_traverse(out, traverse, points);
+    let mut storm = Storm::open(rt, buf);
+    print_storm(rt, &mut storm, traverse.count, numbers, out)
 }
 
 // Room for 65 points, and for a record of as many.
+const POINTS: usize = Station::NUMBERS * POINTS_MOST;
+
+const RECORD: usize = Closing::NUMBERS + Point::NUMBERS * POINTS_MOST;
+
+// Where a read fails, what waits is not printed.
 fn main(rt: HostRuntime) {
     let mut buf = io::large_buffer();
-    let mut out = io::large_buffer();
-    let mut points = [0i64; 130];
-    let mut numbers = [0i64; 197];
-    run(&rt, &mut buf, &mut points, &mut numbers, &mut out);
+    let mut block = io::large_buffer();
+    let mut points = [0; POINTS];
+    let mut numbers = [0; RECORD];
+    let mut out = Out {
+        bytes: &mut block,
+        used: 0,
+    };
+    match run(&rt, &mut buf, &mut points, &mut numbers, &mut out) {
+        Ok(()) => {}
+        Err(Stop::Refused(refusal)) => out.print(Line::Refused(refusal)),
+        Err(Stop::Failed) => return,
+    }
+    out.flush(&rt);
 }

@@ -5,11 +5,12 @@ use mathlib.Core.List.{List, [], ◌∷◌}
 use Prim.Native.Nat.{ℕ, zero, suc, ◌+◌, ◌-◌, ◌*◌, ◌<◌, ◌≤◌, ◌^◌}
 use native.Mathlib.Omega.{arith}
 use native.Mathlib.Numerals.{add-one}
-use native.Mathlib.Nat.{pow-suc, pow-le-pow_right, mul-le-mul_right, sub-zero}
+use native.Mathlib.Nat.{pow-suc, mul-le-mul_right}
 use lib.ListN.{length}
 use lib.Dec.{ltb}
-use borrow.Author.Tests.{lt-ltb, le-ltb, ltb-true}
-use Rattle.reader.specs.Text.{digit_at, digits, worth}
+use borrow.Author.Tests.{lt-ltb, le-ltb, ltb-true, ltb-false}
+use Rattle.std.proofs.Common.{Some, None, cond}
+use Rattle.reader.specs.Text.{digit_at, some_digit, digits, worth}
 
 -- a digit stands within the text
 pub within : (s : List ℕ) (i : ℕ) → digit_at s i < 10 → i < length s
@@ -61,49 +62,52 @@ digits-worth s (suc n) v at =
 
 -- ---- digit by digit
 
--- what holds while digits are read, `most` of them at most: `count` of them from `start` on, worth `value`, and `d` is the next
-pub record Scan (most : ℕ) (s : List ℕ) (start at count value d : ℕ) : Type 0 where
+-- the digit at a place, where there is one, and where there is none
+pub digit-some : (s : List ℕ) (i d : ℕ) → Some d ≡ some_digit s i → (d ≡ digit_at s i) × (digit_at s i < 10)
+digit-some s i d e = go (ltb (digit_at s i) 10) refl e
+  where
+    go : (t : Bool) → ltb (digit_at s i) 10 ≡ t → Some d ≡ cond t (Some (digit_at s i)) None → (d ≡ digit_at s i) × (digit_at s i < 10)
+    go true l f = (cc, ltb-true _ _ l)
+    go false l f = absurd cc
+
+pub digit-none : (s : List ℕ) (i : ℕ) → None ≡ some_digit s i → 10 ≤ digit_at s i
+digit-none s i e = go (ltb (digit_at s i) 10) refl e
+  where
+    go : (t : Bool) → ltb (digit_at s i) 10 ≡ t → None ≡ cond t (Some (digit_at s i)) None → 10 ≤ digit_at s i
+    go true l f = absurd cc
+    go false l f = ltb-false _ _ l
+
+-- what holds while digits are read, `most` of them at most: `count` of them from `start` on, worth `value`
+pub record Scan (most : ℕ) (s : List ℕ) (start at count value : ℕ) : Type 0 where
   pub place : at ≡ start + count
   pub few : count ≤ most
   pub small : value < 10 ^ count
-  pub here : d ≡ digit_at s at
   pub many : digits s most start ≡ count + digits s (most - count) at
   pub same : worth s 0 (digits s most start) start ≡ worth s value (digits s (most - count) at) at
 
-pub scan-none : (most : ℕ) (s : List ℕ) (start d : ℕ) → d ≡ digit_at s start → Scan most s start start 0 0 d
-scan-none most s start d e = record { place = omega arith; few = omega arith; small = omega arith; here = e; many = rw sub-zero (omega arith); same = rw sub-zero }
-
-module _ {most : ℕ} {s : List ℕ} {start at count value d : ℕ} (h : Scan most s start at count value d) where
-  pub scan-size : (k : ℕ) → count ≤ k → value < 10 ^ k
-  scan-size k p = omega (arith, h.small, pow-le-pow_right {n = 10} (omega arith) p)
-
-  pub scan-within : d < 10 → at < length s
-  scan-within p = within s at (omega (arith, h.here))
-
+module _ {most : ℕ} {s : List ℕ} {start at count value : ℕ} (h : Scan most s start at count value) where
   -- one digit more is counted
-  scan-next : d < 10 → count < most → digits s (most - count) at ≡ suc (digits s (most - (count + 1)) (at + 1))
+  scan-next : digit_at s at < 10 → count < most → digits s (most - count) at ≡ suc (digits s (most - (count + 1)) (at + 1))
   unfolding digits
   scan-next p q =
-      let b : digit_at s at < 10 = omega (arith, h.here) in
       let e : most - count ≡ suc (most - (count + 1)) = omega arith in
-      rw (e, lt-ltb _ _ b)
+      rw (e, lt-ltb _ _ p)
 
-  pub scan-more : (to e : ℕ) → d < 10 → count < most → to ≡ at + 1 → e ≡ digit_at s to → Scan most s start to (count + 1) (value * 10 + d) e
+  pub scan-more : (to d : ℕ) → d ≡ digit_at s at → digit_at s at < 10 → count < most → to ≡ at + 1 → Scan most s start to (count + 1) (value * 10 + d)
   unfolding worth
-  scan-more to e p q t r =
+  scan-more to d r p q t =
       let g = h.small in
       record {
         place = omega (arith, h.place);
         few = omega arith;
         small = simp (add-one, pow-suc) (omega arith);
-        here = r;
         many = rw t (omega (arith, h.many, scan-next p q));
-        same = h.same ∙ rw (scan-next p q, t, h.here);
+        same = h.same ∙ rw (scan-next p q, t, r);
       }
 
   -- no digit more is there, or is counted
-  pub scan-ended : 10 ≤ d → digits s (most - count) at ≡ 0
-  scan-ended p = digits-none s (most - count) at (omega (arith, h.here))
+  pub scan-ended : 10 ≤ digit_at s at → digits s (most - count) at ≡ 0
+  scan-ended p = digits-none s (most - count) at p
 
   pub scan-full : count ≡ most → digits s (most - count) at ≡ 0
   unfolding digits
@@ -117,5 +121,5 @@ module _ {most : ℕ} {s : List ℕ} {start at count value d : ℕ} (h : Scan mo
     unfolding worth
     scan-value = h.same ∙ rw z
 
-  pub scan-long : d < 10 → count < most → count < digits s most start
+  pub scan-long : digit_at s at < 10 → count < most → count < digits s most start
   scan-long p q = omega (arith, h.many, scan-next p q)

@@ -1,4 +1,5 @@
 -- Document 01's "Files" and checks 1 to 5 run on small texts, and what calls leave in lent numbers: the definitions compute each answer. Assumes nothing.
+use Rattle.std.proofs.Common.{Result, Ok, Err, Option}
 use mathlib.Core.Path.{◌≡◌, refl}
 use mathlib.Core.Bool.{Bool, true, false, cond}
 use mathlib.Core.List.{List, [], ◌∷◌, ◌++◌}
@@ -7,18 +8,15 @@ use lib.IntN.{ℤ, pos, negsuc}
 use lib.ListN.{replicate}
 use Rattle.records.specs.declared.Refusal.{Refusal}
 use Rattle.records.specs.Refusals.{number_of}
-use Rattle.records.specs.Groups.{wholes, station_at, put_station, point_count}
+use Rattle.records.specs.Groups.{wholes, point_count, group_at, put_group}
 use Rattle.records.specs.Limits.{count_ok}
 use Rattle.records.specs.Shapes.{Traverse, Record, count}
 use Rattle.reader.specs.Text.{more, digit_at, digits, worth, good_of, signed_value, start_at, good_at, value_at, past_at, close_of, eq_z}
 use Rattle.reader.specs.Lines.{Outcome, read, refused, Leaves, repeated, kept_with, same_with, values_at, lines_at, spells, names_at}
 use Rattle.reader.specs.Storm.{storm_names, storm_start, next_at, kept_at, next_of, too_few, next_left, record_of, Stop, ended, stopped, paused, unread, records_by, storm_rest, storm_of}
 use Rattle.reader.specs.Traverse.{head_names, point_names, start, with_values, stored_at, with_point, line_at, counted_by, end_at, rest_by, rest_at, traverse_read, traverse_left, traverse_of}
-use Rattle.reader.specs.declared.storm.Next.{Next}
-use Rattle.reader.specs.declared.storm.Next.TheVariants as next
 use Rattle.reader.specs.declared.traverse.TraverseRead.{TraverseRead}
-use Rattle.reader.specs.declared.traverse.Whole.{Whole}
-use Rattle.reader.specs.declared.traverse.Whole.TheVariants as whole
+use Rattle.reader.specs.declared.Cursor.{Cursor}
 
 -- ---- lines
 
@@ -213,20 +211,19 @@ hold_lent f [] = true
 hold_lent f (e ∷ es) = cond (same (f (joined e.lines) (nines e.lent)) e.gives) (hold_lent f es) false
 
 -- the refusal, if there is one, and then the numbers
-abbrev next_numbers : Leaves Next → List ℤ
+abbrev next_numbers : Leaves (Result (Option Cursor) Refusal) → List ℤ
 next_numbers x = by x.answer ++ x.numbers
   where
-    by : Next → List ℤ
-    by (next.Read c) = []
-    by next.End = []
-    by (next.Refused r) = refusal_numbers r
+    by : Result (Option Cursor) Refusal → List ℤ
+    by (Ok c) = []
+    by (Err r) = refusal_numbers r
 
-abbrev whole_numbers : Leaves TraverseRead → List ℤ
-whole_numbers x = by x.answer.answer ++ x.numbers
+abbrev whole_numbers : Leaves (Result TraverseRead Refusal) → List ℤ
+whole_numbers x = by x.answer ++ x.numbers
   where
-    by : Whole → List ℤ
-    by whole.Read = []
-    by (whole.Refused r) = refusal_numbers r
+    by : Result TraverseRead Refusal → List ℤ
+    by (Ok t) = []
+    by (Err r) = refusal_numbers r
 
 -- the first record of two points, past a names line of one byte
 abbrev records-lent : List LentExample
@@ -254,7 +251,7 @@ traverses-lent =
     record { lines = head_names ∷ settings ∷ point_names ∷ far ∷ zero-led ∷ []; lent = 4; gives = pos 2 ∷ pos 5 ∷ pos 10 ∷ pos 5 ∷ pos 9 ∷ pos 9 ∷ [] } ∷ []
 
 pub traverse-examples : hold (λ s. traverse_numbers (traverse_of s)) traverses ≡ true
-unfolding traverse_of rest_at rest_by line_at end_at counted_by count_ok start with_values with_point stored_at put_station station_at wholes lines_at values_at repeated kept_with same_with names_at spells good_at good_of value_at signed_value worth past_at start_at digits digit_at close_of more
+unfolding traverse_of rest_at rest_by line_at end_at counted_by count_ok start with_values with_point stored_at put_group group_at wholes lines_at values_at repeated kept_with same_with names_at spells good_at good_of value_at signed_value worth past_at start_at digits digit_at close_of more
 traverse-examples = refl
 
 pub storm-examples : hold (λ s. storm_numbers (storm_of s 2).records (storm_of s 2).stop) storms ≡ true
@@ -266,5 +263,5 @@ unfolding next_left too_few next_of next_at kept_at count_ok record_of lines_at 
 record-lent-examples = refl
 
 pub traverse-lent-examples : hold_lent (λ s lent. whole_numbers (traverse_left s lent)) traverses-lent ≡ true
-unfolding traverse_left traverse_read rest_at rest_by line_at end_at counted_by count_ok start with_values with_point stored_at put_station station_at wholes lines_at values_at repeated kept_with same_with names_at spells good_at good_of value_at signed_value worth past_at start_at digits digit_at close_of more
+unfolding traverse_left traverse_read rest_at rest_by line_at end_at counted_by count_ok start with_values with_point stored_at put_group group_at wholes lines_at values_at repeated kept_with same_with names_at spells good_at good_of value_at signed_value worth past_at start_at digits digit_at close_of more
 traverse-lent-examples = refl

@@ -1,4 +1,5 @@
 -- How many numbers are kept: of lines that were read as many as they have places, of others no more. Assumes nothing.
+use Rattle.std.proofs.Common.{Result, Ok, Err}
 use mathlib.Core.Path.{◌≡◌, refl, sym, ap, ◌∙◌}
 use mathlib.Core.Bool.{Bool, true, false, cond}
 use mathlib.Core.List.{List, [], ◌∷◌}
@@ -12,17 +13,17 @@ use Rattle.records.specs.declared.Kind.TheVariants.{Ended}
 use Rattle.records.specs.Refusals.{refusal}
 use Rattle.reader.specs.Text.{more, value_at, past_at}
 use Rattle.reader.specs.Lines.{repeated, kept_with, same_with, Line, full, bad, closed_at, values_at, LinesRead, lines_read, after, lines_at}
-use Rattle.reader.specs.declared.Lines.{Lines}
-use Rattle.reader.specs.declared.Lines.TheVariants.{Read, Refused}
 use Rattle.reader.proofs.Laws.{number_place, place-line, place_kept, place-again}
+use Rattle.reader.specs.declared.Cursor.{Cursor}
+use Rattle.records.specs.declared.Refusal.{Refusal}
 
 abbrev LineSize : ℕ → Line → Type 0
 LineSize m (full a l e) = length l ≡ m
 LineSize m (bad l) = length l ≤ m
 
-abbrev pub AnswerSize : ℕ → Lines → List ℤ → Type 0
-AnswerSize m (Read c) l = length l ≡ m
-AnswerSize m (Refused q) l = length l ≤ m
+abbrev pub AnswerSize : ℕ → Result Cursor Refusal → List ℤ → Type 0
+AnswerSize m (Ok c) l = length l ≡ m
+AnswerSize m (Err q) l = length l ≤ m
 
 abbrev pub LinesSize : ℕ → LinesRead → Type 0
 LinesSize m x = AnswerSize m x.answer x.kept
@@ -72,7 +73,7 @@ module _ (width shared : ℕ) where
 
         go : (b : Bool) (l : Line) → LineSize (number_place width shared i width) l
             → ((a : ℕ) (o : List ℤ) → length o ≡ number_place width shared (i + 1) 0 → LinesSize (number_place width shared m 0) (lines_at s width shared n (i + 1) a (more line) o))
-            → LinesSize (number_place width shared m 0) (cond b (after l (more line) (λ a o. lines_at s width shared n (i + 1) a (more line) o)) (lines_read (Refused (refusal Ended line)) kept))
+            → LinesSize (number_place width shared m 0) (cond b (after l (more line) (λ a o. lines_at s width shared n (i + 1) a (more line) o)) (lines_read (Err (refusal Ended line)) kept))
         go true (full a o true) p r = r a o (p ∙ sym (place-line width shared i z))
         go true (full a o false) p r = omega (arith, down)
         go true (bad o) p r = omega (arith, down)

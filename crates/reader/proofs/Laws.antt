@@ -1,30 +1,29 @@
 -- What one value and one line more do to what is yet to read and to the numbers that are kept. Assumes nothing.
+use Rattle.std.proofs.Common.{Result, Ok, Err}
 use mathlib.Core.Path.{◌≡◌, refl, sym, ap, subst, ◌∙◌}
 use mathlib.Core.Bool.{Bool, true, false, cond, ◌&&◌}
 use mathlib.Core.List.{List, [], ◌∷◌}
-use Prim.Native.Nat.{ℕ, zero, suc, ◌+◌, ◌-◌, ◌*◌, ◌<◌, ◌≤◌, ◌^◌}
+use Prim.Native.Nat.{ℕ, zero, suc, ◌+◌, ◌-◌, ◌*◌, ◌<◌, ◌≤◌}
 use native.Mathlib.Omega.{arith}
 use native.Mathlib.Numerals.{add-one}
 use native.Mathlib.Nat.{suc-mul, mul-le-mul_right}
 use lib.ListN.{length, take, drop, length-set, take-append-drop}
 use lib.Seq.{length-take-le, drop-drop, take-suc-set, drop-set-lt, get_or-take}
 use lib.Dec.{leb, eqb, eqb-suc-zero}
-use lib.IntN.{ℤ, pos, negsuc}
-use mir.Syntax.{w64}
-use mir.Val.{SFits, of_z}
-use borrow.Author.Tests.{lt-ltb, le-ltb, ltb-true, ltb-false, ne_eqb, eq-eqb, eqb-true, eqb-false, le-leb, lt-leb, leb-true, leb-false}
+use lib.IntN.{ℤ, pos}
+use borrow.Author.Tests.{lt-ltb, le-ltb, ltb-true, ltb-false, ne_eqb, eqb-true, le-leb, lt-leb, leb-true, leb-false}
 use Rattle.records.specs.declared.Kind.TheVariants.{Malformed, Ended, Differs}
 use Rattle.records.specs.Refusals.{refusal}
 use Rattle.records.proofs.LimitLaws.{and_right}
 use Rattle.reader.proofs.Digits.{Scan, scan-ended, scan-count, scan-value}
-use Rattle.reader.specs.Text.{more, byte, digits, good_of, signed_value, negative_at, start_at, good_at, value_at, past_at, close_of, eq_z}
+use Rattle.reader.specs.Text.{more, byte, digit_at, digits, good_of, signed_value, negative_at, start_at, good_at, value_at, past_at, close_of}
 use Rattle.reader.specs.Lines.{Leaves, leaves, laid, repeated, kept_with, same_with, kept_left, full, bad, closed_at, values_at, LinesRead, lines_read, lines_at, lines_left}
 use Rattle.reader.specs.declared.Kept.{Kept}
-use Rattle.reader.specs.declared.Lines.{Lines}
-use Rattle.reader.specs.declared.Lines.TheVariants.{Read, Refused}
+use Rattle.reader.specs.declared.Cursor.{Cursor}
+use Rattle.records.specs.declared.Refusal.{Refusal}
 
 pub never : false ≡ true → ⊥
-never e = let z : ◌≡◌ {A = ℕ} 0 1 = cc in omega arith
+never e = cc
 
 -- a byte that is not nought stands within the text
 pub present : (s : List ℕ) (i b : ℕ) → 0 < b → byte s i ≡ b → i < length s
@@ -44,7 +43,7 @@ module _ (s : List ℕ) (at : ℕ) where
   unfolding good_at good_of
   too_long h = simp (ne_eqb (digits s 10 (start_at s at)) 0 (omega arith), lt-ltb _ _ h)
 
-  module _ {to count value d : ℕ} (h : Scan 10 s (start_at s at) to count value d) (e : 10 ≤ d) where
+  module _ {to count value : ℕ} (h : Scan 10 s (start_at s at) to count value) (e : 10 ≤ digit_at s to) where
     pub good-is : (negative : Bool) (first : ℕ) → negative ≡ negative_at s at → first ≡ byte s (start_at s at) → good_at s at ≡ good_of negative count first
     unfolding good_at
     good-is negative first p q = rw (scan-count h (scan-ended h e), p, q)
@@ -114,12 +113,12 @@ module _ (width shared : ℕ) where
 
   pub place-again : (i k : ℕ) → repeated shared i k ≡ true → number_place width shared i (k + 1) ≡ number_place width shared i k
   unfolding repeated
-  place-again zero k e = absurd (never e)
+  place-again zero k e = absurd cc
   place-again (suc i) k e = omega (arith, ltb-true k shared e)
 
   pub place-past : (i k : ℕ) → repeated shared i k ≡ true → k < number_place width shared i k
   unfolding repeated
-  place-past zero k e = absurd (never e)
+  place-past zero k e = absurd cc
   place-past (suc i) k e = omega (arith, ltb-true k shared e)
 
   pub place-room : (n i k : ℕ) → shared ≤ width → i < n → k < width → repeated shared i k ≡ false → number_place width shared i k < shared + n * (width - shared)
@@ -214,21 +213,21 @@ values-done s shared i n k at kept same e = rw e
 -- ---- the lines
 
 pub lines-done : (s : List ℕ) (width shared n i at line : ℕ) (kept : List ℤ) → n ≡ 0
-    → lines_at s width shared n i at line kept ≡ lines_read (Read (record { at = at; line = line })) kept
+    → lines_at s width shared n i at line kept ≡ lines_read (Ok (record { at = at; line = line })) kept
 unfolding lines_at
 lines-done s width shared n i at line kept e = rw e
 
 module _ (s : List ℕ) (width shared n m i at line : ℕ) (kept : List ℤ) (e : n ≡ suc m) where
-  pub lines-ended : length s ≤ at → lines_at s width shared n i at line kept ≡ lines_read (Refused (refusal Ended line)) kept
+  pub lines-ended : length s ≤ at → lines_at s width shared n i at line kept ≡ lines_read (Err (refusal Ended line)) kept
   unfolding lines_at
   lines-ended h = rw (e, le-ltb _ _ h)
 
   module _ (l : ℕ) (o : List ℤ) (h : at < length s) (t : l ≡ more line) where
-    pub lines-bad : values_at s shared i width 0 at kept true ≡ bad o → lines_at s width shared n i at line kept ≡ lines_read (Refused (refusal Malformed l)) o
+    pub lines-bad : values_at s shared i width 0 at kept true ≡ bad o → lines_at s width shared n i at line kept ≡ lines_read (Err (refusal Malformed l)) o
     unfolding lines_at
     lines-bad v = rw (t, e, lt-ltb _ _ h, v)
 
-    pub lines-differ : (a : ℕ) → values_at s shared i width 0 at kept true ≡ full a o false → lines_at s width shared n i at line kept ≡ lines_read (Refused (refusal Differs l)) o
+    pub lines-differ : (a : ℕ) → values_at s shared i width 0 at kept true ≡ full a o false → lines_at s width shared n i at line kept ≡ lines_read (Err (refusal Differs l)) o
     unfolding lines_at
     lines-differ a v = rw (t, e, lt-ltb _ _ h, v)
 
@@ -237,23 +236,8 @@ module _ (s : List ℕ) (width shared n m i at line : ℕ) (kept : List ℤ) (e 
     lines_more a v = rw (t, e, lt-ltb _ _ h, v)
 
 -- what the call leaves, from what it kept
-pub left_is : (x : LinesRead) (r : Lines) {lent out : List ℤ} {p₀ p : ℕ} → x ≡ lines_read r (take p out) → Keeping lent p₀ out p → leaves r out ≡ lines_left x lent
+pub left_is : (x : LinesRead) (r : Result Cursor Refusal) {lent out : List ℤ} {p₀ p : ℕ} → x ≡ lines_read r (take p out) → Keeping lent p₀ out p → leaves r out ≡ lines_left x lent
 left_is x r {lent} {out} {p₀} {p} e h = rw (e, laid-is h)
-
--- ---- two signed numbers are the same where their bits are
-
-eqb-by : (a b c d : ℕ) → (a ≡ b → c ≡ d) → (c ≡ d → a ≡ b) → eqb a b ≡ eqb c d
-eqb-by a b c d f g = go (eqb c d) refl
-  where
-    go : (t : Bool) → eqb c d ≡ t → eqb a b ≡ t
-    go true e = eq-eqb a b (g (eqb-true c d e))
-    go false e = ne_eqb a b (λ q. eqb-false c d e (f q))
-
-pub eq-bits : (a b : ℤ) → SFits w64 a → SFits w64 b → eqb (of_z w64 a) (of_z w64 b) ≡ eq_z a b
-eq-bits (pos a) (pos b) f g = refl
-eq-bits (pos a) (negsuc b) f g = let x = f.sfits in let y = g.sfits in ne_eqb a (2 ^ 64 - suc b) (omega arith)
-eq-bits (negsuc a) (pos b) f g = let x = f.sfits in let y = g.sfits in ne_eqb (2 ^ 64 - suc a) b (omega arith)
-eq-bits (negsuc a) (negsuc b) f g = let x = f.sfits in let y = g.sfits in eqb-by (2 ^ 64 - suc a) (2 ^ 64 - suc b) a b (omega arith) (omega arith)
 
 -- ---- room in a window
 

@@ -1,4 +1,5 @@
 -- The statements of specs/Lent.antt on a record: the record that a call answers stands in the lent numbers, and those past it stay as lent. Assumes nothing.
+use Rattle.std.proofs.Common.{Result, Ok, Err, Option, Some}
 use mathlib.Core.Path.{◌≡◌, refl, sym, ap, subst, ◌∙◌}
 use mathlib.Core.Bool.{Bool, true, false, cond, ◌&&◌}
 use mathlib.Core.List.{List, []}
@@ -14,18 +15,15 @@ use Rattle.records.specs.Refusals.{refusal}
 use Rattle.records.specs.Limits.{count_ok, most_points}
 use Rattle.records.proofs.GroupLaws.{wholes-times}
 use Rattle.reader.specs.Lines.{Outcome, read, refused, found, Leaves, leaves, laid, LinesRead}
-use Rattle.reader.specs.Storm.{record_of, record_size, record_in, record_lines, Further, one, none, next_at, kept_at, next_of, too_few, next_left, holds_record, needs-more, seen, record_step, record_step_left}
+use Rattle.reader.specs.Storm.{record_of, record_size, record_in, record_lines, Further, one, none, next_at, kept_at, next_of, too_few, next_left, holds_record, needs-more, seen, answered, record_step, record_step_left}
 use Rattle.reader.specs.Lent.{Spared, NextSpares, HasRecord, NextHasRecord, seen_answer, StepAnswers, StepSpares, StepHasRecord}
 use Rattle.reader.specs.declared.Cursor.{Cursor}
-use Rattle.reader.specs.declared.Lines.{Lines}
-use Rattle.reader.specs.declared.Lines.TheVariants.{Read, Refused}
-use Rattle.reader.specs.declared.storm.Next.{Next}
-use Rattle.reader.specs.declared.storm.Next.TheVariants as next
-use Rattle.reader.specs.declared.storm.RecordStep.{RecordStep}
-use Rattle.reader.specs.declared.storm.RecordStep.TheVariants as step
 use Rattle.reader.proofs.Laws.{number_place}
 use Rattle.reader.proofs.StormLaws.{counts-in}
 use Rattle.reader.proofs.KeptLaws.{LinesSize, AnswerSize, lines-size}
+use Rattle.records.specs.declared.Refusal.{Refusal}
+use Rattle.reader.specs.declared.storm.Halt.{Halt}
+use Rattle.reader.specs.declared.storm.Halt.TheVariants as halt
 
 -- ---- what was kept, laid into the lent numbers
 
@@ -58,9 +56,9 @@ module _ (s : List ℕ) (n at line : ℕ) where
       places zero h = absurd (omega arith)
       places (suc n) h = omega arith
 
-  some : (a : Lines) (l : List ℤ) → AnswerSize (record_size n) a l → length l ≤ record_size n
-  some (Read c) l h = omega arith
-  some (Refused q) l h = h
+  some : (a : Result Cursor Refusal) (l : List ℤ) → AnswerSize (record_size n) a l → length l ≤ record_size n
+  some (Ok c) l h = omega arith
+  some (Err q) l h = h
 
   kept-few : length (kept_at s n at line) ≤ record_size n
   unfolding kept_at
@@ -87,7 +85,7 @@ unfolding next_left
 next-spares s n at line lent = go (too_few n (length lent)) refl
   where
     go : (b : Bool) → too_few n (length lent) ≡ b
-        → Spared n lent (cond b (leaves (next.Refused (refusal Lent 0)) lent) (leaves (next_of (next_at s n at line)) (laid (kept_at s n at line) lent))).numbers
+        → Spared n lent (cond b (leaves (Err (refusal Lent 0)) lent) (leaves (next_of (next_at s n at line)) (laid (kept_at s n at line) lent))).numbers
     go true e = record { size = refl; spare = refl }
     go false e = record {
       size = laid-size (kept_at s n at line) lent (kept-fits s n at line (length lent) e);
@@ -98,32 +96,32 @@ next-spares s n at line lent = go (too_few n (length lent)) refl
 abbrev outcome_by : ℕ → ℕ → ℕ → Bool → Bool → LinesRead → Outcome Further
 outcome_by n at line k b x = cond k (cond b (found x.answer (one (record_of x.kept))) (cond (ltb 1 line) (read none at line) (refused (refusal Ended line)))) (refused (refusal Points n))
 
-abbrev left_by : ℕ → ℕ → ℕ → List ℤ → Bool → Bool → Bool → LinesRead → Leaves Next
+abbrev left_by : ℕ → ℕ → ℕ → List ℤ → Bool → Bool → Bool → LinesRead → Leaves (Result (Option Cursor) Refusal)
 left_by n at line lent k t b x =
-    cond (k && t) (leaves (next.Refused (refusal Lent 0)) lent) (leaves (next_of (outcome_by n at line k b x)) (laid (cond k (cond b x.kept []) []) lent))
+    cond (k && t) (leaves (Err (refusal Lent 0)) lent) (leaves (next_of (outcome_by n at line k b x)) (laid (cond k (cond b x.kept []) []) lent))
 
 -- where it answers a record: all its tests passed, and the lines were read
 record Passed (n at line : ℕ) (lent : List ℤ) (c : Cursor) (k t b : Bool) (x : LinesRead) : Type 0 where
   pub counted : k ≡ true
   pub enough : t ≡ false
-  pub answer : x.answer ≡ Read c
+  pub answer : x.answer ≡ Ok c
   pub outcome : outcome_by n at line k b x ≡ read (one (record_of x.kept)) c.at c.line
   pub numbers : (left_by n at line lent k t b x).numbers ≡ laid x.kept lent
 
 module _ (n at line : ℕ) (lent : List ℤ) (c : Cursor) where
-  passed : (k t b : Bool) (a : Lines) (l : List ℤ) → (left_by n at line lent k t b (record { answer = a; kept = l })).answer ≡ next.Read c → Passed n at line lent c k t b (record { answer = a; kept = l })
+  passed : (k t b : Bool) (a : Result Cursor Refusal) (l : List ℤ) → (left_by n at line lent k t b (record { answer = a; kept = l })).answer ≡ Ok (Some c) → Passed n at line lent c k t b (record { answer = a; kept = l })
   unfolding next_of
-  passed true true b a l e = let z : ◌≡◌ {A = ℕ} 0 1 = cc in absurd (omega arith)
-  passed true false true (Read d) l e =
+  passed true true b a l e = absurd cc
+  passed true false true (Ok d) l e =
       let u : d ≡ c = cc in
       record { counted = refl; enough = refl; answer = rw u; outcome = rw u; numbers = refl }
-  passed true false true (Refused q) l e = let z : ◌≡◌ {A = ℕ} 0 1 = cc in absurd (omega arith)
+  passed true false true (Err q) l e = absurd cc
   passed true false false a l e = absurd (go (ltb 1 line) e)
     where
-      go : (b : Bool) → next_of (cond b (read none at line) (refused (refusal Ended line))) ≡ next.Read c → ⊥
-      go true e = let z : ◌≡◌ {A = ℕ} 0 1 = cc in omega arith
-      go false e = let z : ◌≡◌ {A = ℕ} 0 1 = cc in omega arith
-  passed false t b a l e = let z : ◌≡◌ {A = ℕ} 0 1 = cc in absurd (omega arith)
+      go : (b : Bool) → next_of (cond b (read none at line) (refused (refusal Ended line))) ≡ Ok (Some c) → ⊥
+      go true e = absurd cc
+      go false e = absurd cc
+  passed false t b a l e = absurd cc
 
 has-record : (n : ℕ) (l : List ℤ) → count_ok most_points n ≡ true → record_size n ≤ length l → HasRecord n l
 has-record n l k h =
@@ -142,9 +140,9 @@ next-has-record s n at line lent c e =
       p.outcome ∙ ap (λ r. read (one r) c.at c.line) (laid-record x.kept lent n z ∙ ap (record_in n) (sym p.numbers)),
     )
   where
-    size : (a : Lines) (l : List ℤ) → a ≡ Read c → AnswerSize (record_size n) a l → length l ≡ record_size n
-    size (Read d) l q h = h
-    size (Refused r) l q h = let z : ◌≡◌ {A = ℕ} 0 1 = cc in absurd (omega arith)
+    size : (a : Result Cursor Refusal) (l : List ℤ) → a ≡ Ok c → AnswerSize (record_size n) a l → length l ≡ record_size n
+    size (Ok d) l q h = h
+    size (Err r) l q h = absurd cc
 
 -- ---- a step
 
@@ -152,7 +150,7 @@ pub step-answers : StepAnswers
 unfolding record_step_left record_step next_left
 step-answers w last n at line lent e = rw e (go (holds_record (length w) last n at))
   where
-    go : (b : Bool) → (cond {A = Leaves RecordStep} b (leaves (step.Answer (next_of (next_at w n at line))) (laid (kept_at w n at line) lent)) (leaves step.More lent)).answer
+    go : (b : Bool) → (cond {A = Leaves (Result (Option Cursor) Halt)} b (leaves (answered (next_of (next_at w n at line))) (laid (kept_at w n at line) lent)) (leaves (Err halt.More) lent)).answer
         ≡ seen_answer (cond b (seen (next_at w n at line)) needs-more)
     go true = refl
     go false = refl
@@ -161,19 +159,23 @@ pub step-spares : StepSpares
 unfolding record_step_left
 step-spares w last n at line lent = go (holds_record (length w) last n at)
   where
-    go : (b : Bool) → Spared n lent (cond {A = Leaves RecordStep} b (leaves (step.Answer (next_left w n at line lent).answer) (next_left w n at line lent).numbers) (leaves step.More lent)).numbers
+    go : (b : Bool) → Spared n lent (cond {A = Leaves (Result (Option Cursor) Halt)} b (leaves (answered (next_left w n at line lent).answer) (next_left w n at line lent).numbers) (leaves (Err halt.More) lent)).numbers
     go true = next-spares w n at line lent
     go false = record { size = refl; spare = refl }
+
+answered-ok : {A : Type 0} (r : Result A Refusal) (x : A) → answered r ≡ Ok x → r ≡ Ok x
+answered-ok (Ok y) x e = let z : y ≡ x = cc in ap Ok z
+answered-ok (Err q) x e = absurd cc
 
 pub step-has-record : StepHasRecord
 unfolding record_step_left record_step
 step-has-record w last n at line lent c e = go (holds_record (length w) last n at) e
   where
-    go : (b : Bool) → (cond {A = Leaves RecordStep} b (leaves (step.Answer (next_left w n at line lent).answer) (next_left w n at line lent).numbers) (leaves step.More lent)).answer ≡ step.Answer (next.Read c)
-        → HasRecord n (cond {A = Leaves RecordStep} b (leaves (step.Answer (next_left w n at line lent).answer) (next_left w n at line lent).numbers) (leaves step.More lent)).numbers
-        × (cond b (seen (next_at w n at line)) needs-more ≡ seen (read (one (record_in n (cond {A = Leaves RecordStep} b (leaves (step.Answer (next_left w n at line lent).answer) (next_left w n at line lent).numbers) (leaves step.More lent)).numbers)) c.at c.line))
+    go : (b : Bool) → (cond {A = Leaves (Result (Option Cursor) Halt)} b (leaves (answered (next_left w n at line lent).answer) (next_left w n at line lent).numbers) (leaves (Err halt.More) lent)).answer ≡ Ok (Some c)
+        → HasRecord n (cond {A = Leaves (Result (Option Cursor) Halt)} b (leaves (answered (next_left w n at line lent).answer) (next_left w n at line lent).numbers) (leaves (Err halt.More) lent)).numbers
+        × (cond b (seen (next_at w n at line)) needs-more ≡ seen (read (one (record_in n (cond {A = Leaves (Result (Option Cursor) Halt)} b (leaves (answered (next_left w n at line lent).answer) (next_left w n at line lent).numbers) (leaves (Err halt.More) lent)).numbers)) c.at c.line))
     go true e =
-        let q : (next_left w n at line lent).answer ≡ next.Read c = cc in
+        let q = answered-ok (next_left w n at line lent).answer (Some c) e in
         let h = next-has-record w n at line lent c q in
         (h.0, ap seen h.1)
-    go false e = let z : ◌≡◌ {A = ℕ} 0 1 = cc in absurd (omega arith)
+    go false e = absurd cc

@@ -4,7 +4,7 @@ pub mod Laws
 pub mod Names
 pub mod StormLaws
 pub mod TraverseLaws
-pub mod Window
+pub mod WindowLaws
 pub mod Ends
 pub mod Steps
 pub mod Windows

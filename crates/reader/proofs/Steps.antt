@@ -20,7 +20,7 @@ use Rattle.reader.specs.declared.traverse.Part.{Part}
 use Rattle.reader.specs.declared.traverse.Part.TheVariants.{Names, Values, Columns, Points}
 use Rattle.reader.proofs.StormLaws.{counts-in}
 use Rattle.reader.proofs.TraverseLaws.{Past, line_on, rest_end, rest-line}
-use Rattle.reader.proofs.Window.{Window, shows-far, moved_lines, found-moved, lines-local, names-local, names_same}
+use Rattle.reader.proofs.WindowLaws.{Window, shows-far, moved_lines, found-moved, lines-local, names-local, names_same}
 use Rattle.reader.proofs.Ends.{Read-on, next-on}
 
 -- a window that holds so many bytes from a place on, or is the last, shows that far
@@ -29,7 +29,7 @@ unfolding holds
 far {s} {w} {o} last at need h e = shows-far last h (at + need) (by last e)
   where
     by : (b : Bool) → cond b true (leb (at + need) (length w)) ≡ true → b ≡ false → at + need ≤ length w
-    by true e f = let z : ◌≡◌ {A = ℕ} 0 1 = cc in absurd (omega arith)
+    by true e f = absurd cc
     by false e f = leb-true (at + need) (length w) e
 
 -- ---- a storm text

@@ -1,4 +1,5 @@
 -- The statements of specs/Lent.antt on a traverse: its points stand in the lent numbers, and they are those of the text whatever was lent. Assumes nothing.
+use Rattle.std.proofs.Common.{Result, Ok, Err}
 use mathlib.Core.Path.{◌≡◌, refl, sym, ap, subst, ◌∙◌}
 use mathlib.Core.Bool.{Bool, true, false, cond}
 use mathlib.Core.List.{List, ◌++◌}
@@ -13,30 +14,27 @@ use Rattle.records.specs.declared.Refusal.{Refusal}
 use Rattle.records.specs.declared.Station.{Station}
 use Rattle.records.specs.declared.Kind.TheVariants as kind
 use Rattle.records.specs.Refusals.{refusal}
-use Rattle.records.specs.Groups.{wholes, station_at, station_count, of_station, put_station}
+use Rattle.records.specs.Groups.{wholes, station_at, station_count, of_station, put_group}
 use Rattle.records.specs.Limits.{count_ok, most_points}
 use Rattle.records.specs.Shapes.{Traverse, traverse, count}
 use Rattle.records.proofs.GroupLaws.{wholes-fit, sets-take}
 use Rattle.records.proofs.GroupLaws.{wholes-times}
 use Rattle.reader.specs.Text.{more}
 use Rattle.reader.specs.Lines.{Outcome, read, refused, found, Leaves, leaves, names_at, holds}
-use Rattle.reader.specs.Traverse.{head_names, point_names, Held, held, start, expecting, with_values, stored_at, one_more, with_point, value_line, line_by, line_at, counted_by, end_by, end_at, end_of, on_rest, rest_by, rest_at, traverse_read, traverse_left, no_head, no_points, traverse_by, traverse_of, end_step, end_left, on_step, more_step, step_at, traverse_step}
+use Rattle.reader.specs.Traverse.{head_names, point_names, Held, held, start, expecting, with_values, stored_at, one_more, with_point, value_line, line_by, line_at, counted_by, end_by, end_at, end_of, on_rest, rest_by, rest_at, traverse_read, traverse_left, no_points, traverse_by, traverse_of, end_step, end_left, on_step, more_step, step_at, traverse_step}
 use Rattle.reader.specs.Lent.{HasTraverse, TraverseSize, StepHasTraverse, TraverseIsRead, TraverseIsRefused}
-use Rattle.reader.specs.declared.Lines.{Lines}
-use Rattle.reader.specs.declared.Lines.TheVariants.{Read, Refused}
 use Rattle.reader.specs.declared.traverse.Part.{Part}
 use Rattle.reader.specs.declared.traverse.Part.TheVariants.{Names, Values, Columns, Points}
 use Rattle.reader.specs.declared.traverse.Known.{Known}
 use Rattle.reader.specs.declared.traverse.Progress.{Progress}
 use Rattle.reader.specs.declared.traverse.Progress.TheVariants as progress
-use Rattle.reader.specs.declared.traverse.TraverseStep.{TraverseStep}
-use Rattle.reader.specs.declared.traverse.Whole.TheVariants as whole
 use Rattle.reader.proofs.StormLaws.{counts-in}
+use Rattle.reader.specs.declared.Cursor.{Cursor}
 
 -- ---- as many numbers as were lent
 
 pub stored-size : (l : List ℤ) (i : ℕ) (x : Station) → length (stored_at l i x) ≡ length l
-unfolding stored_at put_station
+unfolding stored_at put_group
 stored-size l i x = go (ltb i (station_count l))
   where
     go : (b : Bool) → length (cond b (sets l (2 * i) (of_station x)) l) ≡ length l
@@ -51,9 +49,9 @@ line-size : (s : List ℕ) (h : Held) (at line : ℕ) → SameSize h (line_at s 
 unfolding line_at with_point
 line-size s h at line = go h.known.part
   where
-    by : (r : Lines) (x : Held) → length x.points ≡ length h.points → SameSize h (found r x)
-    by (Read c) x e = e
-    by (Refused q) x e = tt
+    by : (r : Result Cursor Refusal) (x : Held) → length x.points ≡ length h.points → SameSize h (found r x)
+    by (Ok c) x e = e
+    by (Err q) x e = tt
 
     go : (p : Part) → SameSize h (line_by s p h at line)
     go Names = by (names_at s head_names at line) (held (expecting Values h.known) h.points) refl
@@ -105,13 +103,13 @@ end-fine h at line = go h.known.part
     go Columns = tt
     go Points = unfold counted_by in counted (eqb h.known.count 0) (count_ok most_points h.known.count) (ltb (station_count h.points) h.known.count) refl refl
 
-abbrev FineStep : Progress → Known → List ℤ → Type 0
-FineStep progress.Read k points = (count_ok most_points k.count ≡ true) × (k.count ≤ station_count points)
-FineStep (progress.More c) k points = Unit {0}
-FineStep (progress.Refused q) k points = Unit {0}
+abbrev FineStep : Result Progress Refusal → List ℤ → Type 0
+FineStep (Ok (progress.Read k)) points = (count_ok most_points k.count ≡ true) × (k.count ≤ station_count points)
+FineStep (Ok (progress.More c k)) points = Unit {0}
+FineStep (Err q) points = Unit {0}
 
-abbrev FineLeft : Leaves TraverseStep → Type 0
-FineLeft x = FineStep x.answer.answer x.answer.known x.numbers
+abbrev FineLeft : Leaves (Result Progress Refusal) → Type 0
+FineLeft x = FineStep x.answer x.numbers
 
 fine_end : (o : Outcome Known) (points : List ℤ) → Fine o points → FineLeft (leaves (end_step o) points)
 unfolding end_step
@@ -142,14 +140,9 @@ has-traverse n l k h =
 
 pub step-has-traverse : StepHasTraverse
 unfolding traverse_step
-step-has-traverse w last h at line e =
-    let x = step_at w last (length w) h at line in
-    go x.answer.answer x.answer.known x.numbers e (step-fine w last (length w) h at line)
-  where
-    go : (p : Progress) (k : Known) (l : List ℤ) → p ≡ progress.Read → FineStep p k l → HasTraverse k.count l
-    go progress.Read k l e f = has-traverse k.count l f.0 f.1
-    go (progress.More c) k l e f = let z : ◌≡◌ {A = ℕ} 0 1 = cc in absurd (omega arith)
-    go (progress.Refused q) k l e f = let z : ◌≡◌ {A = ℕ} 0 1 = cc in absurd (omega arith)
+step-has-traverse w last h at line k e =
+    let f : FineStep (Ok (progress.Read k)) (step_at w last (length w) h at line).numbers = subst (λ (x : Result Progress Refusal). FineStep x (step_at w last (length w) h at line).numbers) e (step-fine w last (length w) h at line) in
+    has-traverse k.count (step_at w last (length w) h at line).numbers f.0 f.1
 
 -- ---- the same text, read into two slices that have room for the most points
 
@@ -162,7 +155,7 @@ record Alike (h g : Held) : Type 0 where
 
 -- a point that is stored further on changes none of the first
 stored-before : (l : List ℤ) (i : ℕ) (x : Station) (n : ℕ) → n ≤ i → take (2 * n) (stored_at l i x) ≡ take (2 * n) l
-unfolding stored_at put_station
+unfolding stored_at put_group
 stored-before l i x n h = go (ltb i (station_count l))
   where
     go : (b : Bool) → take (2 * n) (cond b (sets l (2 * i) (of_station x)) l) ≡ take (2 * n) l
@@ -171,7 +164,7 @@ stored-before l i x n h = go (ltb i (station_count l))
 
 -- and where it is the last of them, it follows those before it
 pub stored-at : (l : List ℤ) (i : ℕ) (x : Station) → i < station_count l → take (2 * (i + 1)) (stored_at l i x) ≡ take (2 * i) l ++ of_station x
-unfolding stored_at put_station
+unfolding stored_at put_group
 stored-at l i x h =
     let e : 2 * (i + 1) ≡ 2 * i + 2 = omega arith in
     rw (lt-ltb _ _ h, e) (sets-take (of_station x) l (2 * i) (omega (arith, wholes-fit 2 (length l))))
@@ -221,9 +214,9 @@ line-alike : (s : List ℕ) (h g : Held) (at line : ℕ) → Alike h g → Alike
 unfolding line_at
 line-alike s h g at line a = subst (λ (p : Part). AlikeBy (line_by s p h at line) (line_at s g at line)) (ap (λ (k : Known). k.part) (sym a.known)) (go g.known.part)
   where
-    by : (r : Lines) (x y : Held) → Alike x y → AlikeBy (found r x) (found r y)
-    by (Read c) x y z = (z, refl, refl)
-    by (Refused q) x y z = refl
+    by : (r : Result Cursor Refusal) (x y : Held) → Alike x y → AlikeBy (found r x) (found r y)
+    by (Ok c) x y z = (z, refl, refl)
+    by (Err q) x y z = refl
 
     go : (p : Part) → AlikeBy (line_by s p h at line) (line_by s p g at line)
     go Names = by (names_at s head_names at line) _ _ (alike-known h g (expecting Values) (λ k. refl) a)
@@ -313,18 +306,18 @@ module _ (s : List ℕ) where
         none n e = rw e
 
     read_is : (o : Outcome Known) (l : List ℤ) (t : Traverse) (at line : ℕ) → Fine o l → traverse_by o l ≡ read t at line
-        → (traverse_read o ≡ record { answer = whole.Read; head = t.head; count = count t }) × (take (2 * count t) l ≡ t.points) × (count_ok most_points (count t) ≡ true)
+        → (traverse_read o ≡ Ok (record { head = t.head; count = count t })) × (take (2 * count t) l ≡ t.points) × (count_ok most_points (count t) ≡ true)
     unfolding traverse_read
     read_is (read k a b) l t at line f e =
         let u : traverse k.head (take (2 * k.count) l) ≡ t = cc in
         let z : station_count (take (2 * k.count) l) ≡ k.count = (has-traverse k.count l f.0 f.1).points in
         let c : count t ≡ k.count = ap count (sym u) ∙ z in
         (rw (c, ← u), rw c (ap (λ (x : Traverse). x.points) u), rw c f.0)
-    read_is (refused q) l t at line f e = let z : ◌≡◌ {A = ℕ} 0 1 = cc in absurd (omega arith)
+    read_is (refused q) l t at line f e = absurd cc
 
-    refused-is : (o : Outcome Known) (l : List ℤ) (r : Refusal) → traverse_by o l ≡ refused r → traverse_read o ≡ record { answer = whole.Refused r; head = no_head; count = 0 }
+    refused-is : (o : Outcome Known) (l : List ℤ) (r : Refusal) → traverse_by o l ≡ refused r → traverse_read o ≡ Err r
     unfolding traverse_read
-    refused-is (read k a b) l r e = let z : ◌≡◌ {A = ℕ} 0 1 = cc in absurd (omega arith)
+    refused-is (read k a b) l r e = absurd cc
     refused-is (refused q) l r e = let z : q ≡ r = cc in rw z
 
 pub traverse-is-read : TraverseIsRead

@@ -1,4 +1,5 @@
 -- Reading by windows of any sizes gives what the whole text gives, and wide windows finish it: the statements of specs/Window.antt. Assumes nothing.
+use Rattle.std.proofs.Common.{Result, Ok, Err}
 use mathlib.Core.Path.{◌≡◌, refl, sym, ap, ◌∙◌, subst}
 use mathlib.Core.Bool.{Bool, true, false, cond}
 use mathlib.Core.List.{List, [], ◌∷◌}
@@ -11,19 +12,17 @@ use borrow.Author.Tests.{leb-true, leb-false, le-leb}
 use Rattle.records.specs.Limits.{count_ok, most_points}
 use Rattle.records.specs.Shapes.{Record}
 use Rattle.reader.specs.Lines.{Outcome, read, refused, Leaves, holds}
-use Rattle.reader.specs.Storm.{storm_start, Further, one, none, next_at, Stop, ended, stopped, paused, unread, Storm, with, storm_by, storm_rest, storm_from, storm_of, start_step, holds_record, record_step}
+use Rattle.reader.specs.Storm.{storm_start, Further, one, none, next_at, Stop, ended, stopped, paused, unread, Storm, with, storm_by, storm_rest, storm_from, storm_of, answered, start_step, holds_record, record_step}
 use Rattle.reader.specs.Traverse.{Held, held, start, rest_at, read_left, traverse_left}
 use Rattle.reader.specs.Window.{carried_by, Cut, from_of, window_of, last_of, done, run_on, step_in, traverse_run, storm_on, storm_run, start_on, storm_text_run, traverse_done, storm_done_by, storm_done, shown_by, enough, TraverseByWindows, StormByWindows, StormTextByWindows, TraverseFinishes, StormFinishes}
-use Rattle.reader.specs.declared.traverse.Known.{Known}
 use Rattle.reader.specs.declared.traverse.TraverseRead.{TraverseRead}
 use Rattle.reader.specs.declared.traverse.Progress.{Progress}
 use Rattle.reader.specs.declared.traverse.Progress.TheVariants as progress
-use Rattle.reader.specs.declared.Lines.{Lines}
-use Rattle.reader.specs.declared.Lines.TheVariants.{Read, Refused}
-use Rattle.reader.specs.declared.storm.StartStep.TheVariants as start-step
-use Rattle.reader.proofs.Window.{shows-cut}
+use Rattle.reader.proofs.WindowLaws.{shows-cut}
 use Rattle.reader.proofs.Steps.{start-window, record-by, storm-once, traverse-window}
 use Rattle.reader.proofs.Ends.{Stands, traverse-stands, traverse-moves, Read-on, next-on, Stays, start-stays}
+use Rattle.reader.specs.declared.Cursor.{Cursor}
+use Rattle.records.specs.declared.Refusal.{Refusal}
 
 -- ---- a window that is cut out of the text: what it shows, and its size
 
@@ -50,7 +49,7 @@ module _ (s : List ℕ) (c : Cut) (at : ℕ) (h : at ≤ length s) where
       by : (b : Bool) → cond b (leb (c.back + need) c.size) false ≡ true →
           cond (cond b (leb (length s) (from_of c at + c.size)) false) true (leb (at - from_of c at + need) (length (window_of s c at))) ≡ true
       by true e = reaches (leb (length s) (from_of c at + c.size)) refl (leb-true (c.back + need) c.size e)
-      by false e = absurd (let z : ◌≡◌ {A = ℕ} 0 1 = cc in omega arith)
+      by false e = absurd cc
 
 -- ---- the windows that are counted
 
@@ -68,7 +67,7 @@ unfolding enough
 not-counted need c cuts b f e = go (shown_by need c) f
   where
     go : (x : Bool) → (x ≡ true → b ≡ true) → cond x (suc (enough need cuts)) (enough need cuts) ≡ enough need cuts
-    go true g = let y : b ≡ true = g refl in absurd (let z : ◌≡◌ {A = ℕ} 0 1 = cc in omega arith)
+    go true g = let y : b ≡ true = g refl in absurd cc
     go false g = refl
 
 -- ---- a traverse text
@@ -76,12 +75,12 @@ not-counted need c cuts b f e = go (shown_by need c) f
 module _ (s : List ℕ) where
   -- what a step in a window leads to is what reading on leaves
   step_in-leaves : (c : Cut) (h : Held) (at line : ℕ) → at ≤ length s
-      → carried_by s (from_of c at) (step_in s c h at line).answer.answer (step_in s c h at line).answer.known (step_in s c h at line).numbers ≡ read_left (rest_at s h at line)
+      → carried_by s (from_of c at) (step_in s c h at line).answer (step_in s c h at line).numbers ≡ read_left (rest_at s h at line)
   step_in-leaves c h at line e =
       traverse-window s (window_of s c at) (from_of c at) (last_of s c at) (shows-cut s c at e) h (at - from_of c at) line
       ∙ ap (λ (a : ℕ). read_left (rest_at s h a line)) (back s c at e)
 
-  step-in-stands : (c : Cut) (h : Held) (at line : ℕ) → at ≤ length s → Stands (at - from_of c at) (length s - from_of c at) (step_in s c h at line).answer.answer
+  step-in-stands : (c : Cut) (h : Held) (at line : ℕ) → at ≤ length s → Stands (at - from_of c at) (length s - from_of c at) (step_in s c h at line).answer
   step-in-stands c h at line e =
       traverse-stands (window_of s c at) (last_of s c at) (length s - from_of c at) (omega (arith, cut-end s c at e)) h (at - from_of c at) line (omega arith)
 
@@ -89,37 +88,37 @@ module _ (s : List ℕ) where
   unfolding traverse_run
   traverse-from [] h at line e = refl
   traverse-from (c ∷ cuts) h at line e =
-      go (step_in s c h at line).answer.answer (step_in s c h at line).answer.known (step_in s c h at line).numbers (λ k a l p. traverse-from cuts k a l p) (step-in-stands c h at line e)
+      go (step_in s c h at line).answer (step_in s c h at line).numbers (λ k a l p. traverse-from cuts k a l p) (step-in-stands c h at line e)
       ∙ step_in-leaves c h at line e
     where
-      go : (p : Progress) (k : Known) (l : List ℤ) → ((x : Held) (a l : ℕ) → a ≤ length s → traverse_done s (traverse_run s cuts x a l) ≡ read_left (rest_at s x a l))
-          → Stands (at - from_of c at) (length s - from_of c at) p → traverse_done s (run_on (from_of c at) p k l (traverse_run s cuts)) ≡ carried_by s (from_of c at) p k l
-      go progress.Read k l ih q = refl
-      go (progress.More d) k l ih q = ih (held k l) (from_of c at + d.at) d.line (omega arith)
-      go (progress.Refused r) k l ih q = refl
+      go : (p : Result Progress Refusal) (l : List ℤ) → ((x : Held) (a l : ℕ) → a ≤ length s → traverse_done s (traverse_run s cuts x a l) ≡ read_left (rest_at s x a l))
+          → Stands (at - from_of c at) (length s - from_of c at) p → traverse_done s (run_on (from_of c at) p l (traverse_run s cuts)) ≡ carried_by s (from_of c at) p l
+      go (Ok (progress.Read k)) l ih q = refl
+      go (Ok (progress.More d k)) l ih q = ih (held k l) (from_of c at + d.at) d.line (omega arith)
+      go (Err r) l ih q = refl
 
   -- a window that is counted takes reading at least one byte on, any other at least no byte back
   traverse-all : (cuts : List Cut) (h : Held) (at line : ℕ) → at ≤ length s → length s < at + enough 33 cuts → traverse_run s cuts h at line ≡ done (read_left (rest_at s h at line))
   unfolding traverse_run enough
   traverse-all [] h at line e f = absurd (omega arith)
   traverse-all (c ∷ cuts) h at line e f =
-      by (shown_by 33 c) refl f (step_in s c h at line).answer.answer (step_in s c h at line).answer.known (step_in s c h at line).numbers (λ k a l p q. traverse-all cuts k a l p q) (step-in-stands c h at line e)
+      by (shown_by 33 c) refl f (step_in s c h at line).answer (step_in s c h at line).numbers (λ k a l p q. traverse-all cuts k a l p q) (step-in-stands c h at line e)
       (λ q. traverse-moves (window_of s c at) (last_of s c at) (length s - from_of c at) (omega (arith, cut-end s c at e)) h (at - from_of c at) line (cut_holds s c at e 33 q))
-      ∙ ap (λ (x : Leaves TraverseRead). done x) (step_in-leaves c h at line e)
+      ∙ ap (λ (x : Leaves (Result TraverseRead Refusal)). done x) (step_in-leaves c h at line e)
     where
-      go : (m : ℕ) (p : Progress) (k : Known) (l : List ℤ) → length s < at + (m + enough 33 cuts)
+      go : (m : ℕ) (p : Result Progress Refusal) (l : List ℤ) → length s < at + (m + enough 33 cuts)
           → ((x : Held) (a l : ℕ) → a ≤ length s → length s < a + enough 33 cuts → traverse_run s cuts x a l ≡ done (read_left (rest_at s x a l)))
-          → Stands (at - from_of c at + m) (length s - from_of c at) p → run_on (from_of c at) p k l (traverse_run s cuts) ≡ done (carried_by s (from_of c at) p k l)
-      go m progress.Read k l f ih q = refl
-      go m (progress.More d) k l f ih q = ih (held k l) (from_of c at + d.at) d.line (omega arith) (omega arith)
-      go m (progress.Refused r) k l f ih q = refl
+          → Stands (at - from_of c at + m) (length s - from_of c at) p → run_on (from_of c at) p l (traverse_run s cuts) ≡ done (carried_by s (from_of c at) p l)
+      go m (Ok (progress.Read k)) l f ih q = refl
+      go m (Ok (progress.More d k)) l f ih q = ih (held k l) (from_of c at + d.at) d.line (omega arith) (omega arith)
+      go m (Err r) l f ih q = refl
 
-      by : (b : Bool) → shown_by 33 c ≡ b → length s < at + cond b (suc (enough 33 cuts)) (enough 33 cuts) → (p : Progress) (k : Known) (l : List ℤ)
+      by : (b : Bool) → shown_by 33 c ≡ b → length s < at + cond b (suc (enough 33 cuts)) (enough 33 cuts) → (p : Result Progress Refusal) (l : List ℤ)
           → ((x : Held) (a l : ℕ) → a ≤ length s → length s < a + enough 33 cuts → traverse_run s cuts x a l ≡ done (read_left (rest_at s x a l)))
           → Stands (at - from_of c at) (length s - from_of c at) p → (shown_by 33 c ≡ true → Stands (at - from_of c at + 1) (length s - from_of c at) p)
-          → run_on (from_of c at) p k l (traverse_run s cuts) ≡ done (carried_by s (from_of c at) p k l)
-      by true e f p k l ih u v = go 1 p k l (omega arith) ih (v e)
-      by false e f p k l ih u v = go 0 p k l (omega arith) ih (subst (λ (x : ℕ). Stands x (length s - from_of c at) p) (omega arith) u)
+          → run_on (from_of c at) p l (traverse_run s cuts) ≡ done (carried_by s (from_of c at) p l)
+      by true e f p l ih u v = go 1 p l (omega arith) ih (v e)
+      by false e f p l ih u v = go 0 p l (omega arith) ih (subst (λ (x : ℕ). Stands x (length s - from_of c at) p) (omega arith) u)
 
 pub traverse-by-windows : TraverseByWindows
 unfolding traverse_left
@@ -210,9 +209,9 @@ unfolding storm_text_run
 storm-text-from s n [] = refl
 storm-text-from s n (c ∷ cuts) = go (holds (length (window_of s c 0)) (last_of s c 0) 0 32) refl (storm-text-from s n cuts)
   where
-    opened : (r : Lines) → Stays (length s) r → storm_done s n (start_on (start-step.Answer r) (storm_text_run s n cuts) (storm_run s n cuts)) ≡ storm_from r (storm_rest s n)
-    opened (Read d) h = storm-from s n cuts d.at d.line h
-    opened (Refused q) h = refl
+    opened : (r : Result Cursor Refusal) → Stays (length s) r → storm_done s n (start_on (answered r) (storm_text_run s n cuts) (storm_run s n cuts)) ≡ storm_from r (storm_rest s n)
+    opened (Ok d) h = storm-from s n cuts d.at d.line h
+    opened (Err q) h = refl
 
     go : (b : Bool) → holds (length (window_of s c 0)) (last_of s c 0) 0 32 ≡ b → storm_done s n (storm_text_run s n cuts) ≡ storm_of s n
         → storm_done s n (start_on (start_step (window_of s c 0) (last_of s c 0)) (storm_text_run s n cuts) (storm_run s n cuts)) ≡ storm_of s n

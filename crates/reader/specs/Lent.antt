@@ -1,18 +1,17 @@
 -- What a caller knows of the numbers that it lent: statements, proved in proofs/LentLaws.antt and proofs/TraverseLent.antt. Assumes nothing.
-use Rattle.std.specs.Prelude.{◌≡◌, Bool, true, false, List, ℕ, ◌*◌, ◌≤◌, length, take, drop, ℤ}
+use Rattle.std.specs.Prelude.{Option, Some, Result, Ok, Err, ◌≡◌, Bool, true, false, List, ℕ, ◌*◌, ◌≤◌, length, take, drop, ℤ}
 use Rattle.records.specs.declared.Refusal.{Refusal}
 use Rattle.records.specs.Groups.{station_count, point_count}
 use Rattle.records.specs.Limits.{count_ok, most_points}
 use Rattle.records.specs.Shapes.{Traverse, count}
 use Rattle.reader.specs.Lines.{read, refused}
-use Rattle.reader.specs.Storm.{record_size, record_in, one, next_at, next_of, too_few, next_left, Seen, needs-more, seen, record_step, record_step_left}
-use Rattle.reader.specs.Traverse.{no_head, traverse_left, traverse_of, Held, traverse_step}
+use Rattle.reader.specs.Storm.{record_size, record_in, one, next_at, next_of, too_few, next_left, Seen, needs-more, seen, answered, record_step, record_step_left}
+use Rattle.reader.specs.Traverse.{traverse_left, traverse_of, Held, traverse_step}
 use Rattle.reader.specs.declared.Cursor.{Cursor}
-use Rattle.reader.specs.declared.storm.Next.TheVariants as next
-use Rattle.reader.specs.declared.storm.RecordStep.{RecordStep}
-use Rattle.reader.specs.declared.storm.RecordStep.TheVariants as step
+use Rattle.reader.specs.declared.storm.Halt.{Halt}
+use Rattle.reader.specs.declared.storm.Halt.TheVariants as halt
+use Rattle.reader.specs.declared.traverse.Known.{Known}
 use Rattle.reader.specs.declared.traverse.Progress.TheVariants as progress
-use Rattle.reader.specs.declared.traverse.Whole.TheVariants as whole
 
 -- ---- a record
 
@@ -34,13 +33,13 @@ pub record HasRecord (n : ℕ) (l : List ℤ) : Type 0 where
 -- where the call answers a record, it is the one that the text has, and the lent numbers hold it
 abbrev pub NextHasRecord : Type 0
 NextHasRecord =
-    (s : List ℕ) (n at line : ℕ) (lent : List ℤ) (c : Cursor) → (next_left s n at line lent).answer ≡ next.Read c
+    (s : List ℕ) (n at line : ℕ) (lent : List ℤ) (c : Cursor) → (next_left s n at line lent).answer ≡ Ok (Some c)
     → HasRecord n (next_left s n at line lent).numbers × (next_at s n at line ≡ read (one (record_in n (next_left s n at line lent).numbers)) c.at c.line)
 
 -- the same of a step; the numbers that are enough change nothing of its answer
-abbrev pub seen_answer : Seen → RecordStep
-seen_answer needs-more = step.More
-seen_answer (seen r) = step.Answer (next_of r)
+abbrev pub seen_answer : Seen → Result (Option Cursor) Halt
+seen_answer needs-more = Err halt.More
+seen_answer (seen r) = answered (next_of r)
 
 abbrev pub StepAnswers : Type 0
 StepAnswers =
@@ -52,7 +51,7 @@ StepSpares = (w : List ℕ) (last : Bool) (n at line : ℕ) (lent : List ℤ) �
 
 abbrev pub StepHasRecord : Type 0
 StepHasRecord =
-    (w : List ℕ) (last : Bool) (n at line : ℕ) (lent : List ℤ) (c : Cursor) → (record_step_left w last n at line lent).answer ≡ step.Answer (next.Read c)
+    (w : List ℕ) (last : Bool) (n at line : ℕ) (lent : List ℤ) (c : Cursor) → (record_step_left w last n at line lent).answer ≡ Ok (Some c)
     → HasRecord n (record_step_left w last n at line lent).numbers
     × (record_step w last n at line ≡ seen (read (one (record_in n (record_step_left w last n at line lent).numbers)) c.at c.line))
 
@@ -72,18 +71,18 @@ TraverseSize = (w : List ℕ) (last : Bool) (h : Held) (at line : ℕ) → lengt
 -- where a step answers that the traverse was read, the lent numbers hold it
 abbrev pub StepHasTraverse : Type 0
 StepHasTraverse =
-    (w : List ℕ) (last : Bool) (h : Held) (at line : ℕ) → (traverse_step w last h at line).answer.answer ≡ progress.Read
-    → HasTraverse (traverse_step w last h at line).answer.known.count (traverse_step w last h at line).numbers
+    (w : List ℕ) (last : Bool) (h : Held) (at line : ℕ) (k : Known) → (traverse_step w last h at line).answer ≡ Ok (progress.Read k)
+    → HasTraverse k.count (traverse_step w last h at line).numbers
 
 -- numbers that have room for the most points: whatever stood in them, the answer and the points are those of the text
 abbrev pub TraverseIsRead : Type 0
 TraverseIsRead =
     (s : List ℕ) (lent : List ℤ) → most_points ≤ station_count lent → (t : Traverse) (at line : ℕ) → traverse_of s ≡ read t at line
-    → ((traverse_left s lent).answer ≡ record { answer = whole.Read; head = t.head; count = count t })
+    → ((traverse_left s lent).answer ≡ Ok (record { head = t.head; count = count t }))
     × (take (2 * count t) (traverse_left s lent).numbers ≡ t.points)
     × (count_ok most_points (count t) ≡ true)
 
 abbrev pub TraverseIsRefused : Type 0
 TraverseIsRefused =
     (s : List ℕ) (lent : List ℤ) → most_points ≤ station_count lent → (r : Refusal) → traverse_of s ≡ refused r
-    → (traverse_left s lent).answer ≡ record { answer = whole.Refused r; head = no_head; count = 0 }
+    → (traverse_left s lent).answer ≡ Err r

@@ -1,14 +1,13 @@
 -- Document 01, "Files": lines of values and lines of names, and checks 1 to 4 on them.
 -- A line is read from its place on; `line` counts the lines before it, so a fault in it stands at `more line`.
 -- The numbers that are kept go one after the other into the slice that a caller lends. Assumes nothing.
-use Rattle.std.specs.Prelude.{ℕ, zero, suc, ◌+◌, List, [], ◌∷◌, ◌++◌, Bool, true, false, cond, ◌&&◌, length, get_or, drop, set, ℤ, pos, ltb, leb, eqb}
+use Rattle.std.specs.Prelude.{Result, Ok, Err, ℕ, zero, suc, ◌+◌, List, [], ◌∷◌, ◌++◌, Bool, true, false, cond, ◌&&◌, length, get_or, drop, set, ℤ, pos, ltb, leb, eqb}
 use Rattle.records.specs.declared.Kind.TheVariants.{Names, Malformed, Ended, Differs}
 use Rattle.records.specs.declared.Refusal.{Refusal}
 use Rattle.records.specs.Refusals.{refusal}
 use Rattle.reader.specs.Text.{more, byte, good_at, value_at, past_at, close_of, eq_z}
+use Rattle.reader.specs.declared.Cursor.{Cursor}
 use Rattle.reader.specs.declared.Kept.{Kept}
-use Rattle.reader.specs.declared.Lines.{Lines}
-use Rattle.reader.specs.declared.Lines.TheVariants.{Read, Refused}
 
 -- what reading finds: something, with the place past it and the count of lines before that place; or a refusal
 pub data Outcome (A : Type 0) : Type 0 where
@@ -16,9 +15,9 @@ pub data Outcome (A : Type 0) : Type 0 where
   refused : Refusal → Outcome A
 
 -- what an answer of the code says, with what was read beside it
-abbrev pub found : {A : Type 0} → Lines → A → Outcome A
-found (Read c) x = read x c.at c.line
-found (Refused r) x = refused r
+abbrev pub found : {A : Type 0} → Result Cursor Refusal → A → Outcome A
+found (Ok c) x = read x c.at c.line
+found (Err r) x = refused r
 
 -- ---- the lent numbers
 
@@ -81,29 +80,29 @@ values_at s shared i (suc n) k at kept same =
 
 -- what reading lines finds, and the numbers that were kept, whatever it finds
 pub record LinesRead : Type 0 where
-  pub answer : Lines
+  pub answer : Result Cursor Refusal
   pub kept : List ℤ
 
-abbrev pub lines_read : Lines → List ℤ → LinesRead
+abbrev pub lines_read : Result Cursor Refusal → List ℤ → LinesRead
 lines_read a l = record { answer = a; kept = l }
 
 -- after a value line: 2 if it is malformed, 4 if its shared values differ, otherwise what follows
 abbrev pub after : Line → ℕ → (ℕ → List ℤ → LinesRead) → LinesRead
 after (full at kept true) line next = next at kept
-after (full at kept false) line next = lines_read (Refused (refusal Differs line)) kept
-after (bad kept) line next = lines_read (Refused (refusal Malformed line)) kept
+after (full at kept false) line next = lines_read (Err (refusal Differs line)) kept
+after (bad kept) line next = lines_read (Err (refusal Malformed line)) kept
 
 -- n more lines of so many values, from line i on, of which each shares the first `shared` with line 0: 3 with the last line where the text has
 -- ended, then 2, then 4, line by line
 unfoldable pub lines_at : List ℕ → ℕ → ℕ → ℕ → ℕ → ℕ → ℕ → List ℤ → LinesRead
-lines_at s width shared zero i at line kept = lines_read (Read (record { at = at; line = line })) kept
+lines_at s width shared zero i at line kept = lines_read (Ok (record { at = at; line = line })) kept
 lines_at s width shared (suc n) i at line kept =
     cond (ltb at (length s))
     (after (values_at s shared i width 0 at kept true) (more line) (λ a l. lines_at s width shared n (i + 1) a (more line) l))
-    (lines_read (Refused (refusal Ended line)) kept)
+    (lines_read (Err (refusal Ended line)) kept)
 
 -- in the code's terms: the answer, and what was kept laid into the lent numbers
-abbrev pub lines_left : LinesRead → List ℤ → Leaves Lines
+abbrev pub lines_left : LinesRead → List ℤ → Leaves (Result Cursor Refusal)
 lines_left x lent = leaves x.answer (laid x.kept lent)
 
 -- ---- a line of names
@@ -114,8 +113,8 @@ spells s at [] = true
 spells s at (b ∷ want) = cond (ltb at (length s)) (cond (eqb (byte s at) b) (spells s (at + 1) want) false) false
 
 -- a line of names, which are given with their line feed: 1 where it is different, or where the text ends in it
-unfoldable pub names_at : List ℕ → List ℕ → ℕ → ℕ → Lines
-names_at s want at line = cond (spells s at want) (Read (record { at = at + length want; line = more line })) (Refused (refusal Names (more line)))
+unfoldable pub names_at : List ℕ → List ℕ → ℕ → ℕ → Result Cursor Refusal
+names_at s want at line = cond (spells s at want) (Ok (record { at = at + length want; line = more line })) (Err (refusal Names (more line)))
 
 -- ---- windows
 

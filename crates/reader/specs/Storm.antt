@@ -1,6 +1,6 @@
 -- Document 01, "Files": the text of `storm.txt`, record after record. What the text has is said of the text alone (`next_at`, `storm_of`), and
 -- what a call leaves in the numbers that it was lent by `next_left` and `record_step_left`. Assumes nothing.
-use Rattle.std.specs.Prelude.{ℕ, zero, suc, ◌+◌, ◌*◌, List, [], ◌∷◌, Bool, true, cond, ◌&&◌, length, take, drop, ℤ, ltb}
+use Rattle.std.specs.Prelude.{Option, Some, None, Result, Ok, Err, ℕ, zero, suc, ◌+◌, ◌*◌, List, [], ◌∷◌, Bool, true, cond, ◌&&◌, length, take, drop, ℤ, ltb}
 use Rattle.records.specs.declared.Kind.TheVariants.{Ended, Points, Lent}
 use Rattle.records.specs.declared.Refusal.{Refusal}
 use Rattle.records.specs.Refusals.{refusal}
@@ -8,21 +8,16 @@ use Rattle.records.specs.Groups.{at as number_at}
 use Rattle.records.specs.Limits.{count_ok, most_points}
 use Rattle.records.specs.Shapes.{Record, storm}
 use Rattle.reader.specs.Lines.{Outcome, read, refused, found, Leaves, leaves, laid, LinesRead, lines_at, names_at, holds}
-use Rattle.reader.specs.declared.Lines.{Lines}
-use Rattle.reader.specs.declared.Lines.TheVariants.{Read, Refused}
-use Rattle.reader.specs.declared.storm.Next.{Next}
-use Rattle.reader.specs.declared.storm.Next.TheVariants as next
-use Rattle.reader.specs.declared.storm.RecordStep.{RecordStep}
-use Rattle.reader.specs.declared.storm.RecordStep.TheVariants as step
-use Rattle.reader.specs.declared.storm.StartStep.{StartStep}
-use Rattle.reader.specs.declared.storm.StartStep.TheVariants as start
+use Rattle.reader.specs.declared.Cursor.{Cursor}
+use Rattle.reader.specs.declared.storm.Halt.{Halt}
+use Rattle.reader.specs.declared.storm.Halt.TheVariants as halt
 
 -- the names line `seconds tide wind angle deficit`, with its line feed
 abbrev pub storm_names : List ℕ
 storm_names = 115 ∷ 101 ∷ 99 ∷ 111 ∷ 110 ∷ 100 ∷ 115 ∷ 32 ∷ 116 ∷ 105 ∷ 100 ∷ 101 ∷ 32 ∷ 119 ∷ 105 ∷ 110 ∷ 100 ∷ 32 ∷ 97 ∷ 110 ∷ 103 ∷ 108 ∷ 101 ∷ 32 ∷ 100 ∷ 101 ∷ 102 ∷ 105 ∷ 99 ∷ 105 ∷ 116 ∷ 10 ∷ []
 
 -- the first line of a storm text
-unfoldable pub storm_start : List ℕ → Lines
+unfoldable pub storm_start : List ℕ → Result Cursor Refusal
 storm_start s = names_at s storm_names 0 0
 
 -- ---- a record
@@ -63,20 +58,20 @@ unfoldable pub kept_at : List ℕ → ℕ → ℕ → ℕ → List ℤ
 kept_at s n at line = cond (count_ok most_points n) (cond (ltb at (length s)) (record_lines s n at line).kept []) []
 
 -- the answer for each case: the cursor past the record, the end of the text, or the refusal
-unfoldable pub next_of : Outcome Further → Next
-next_of (read (one r) at line) = next.Read (record { at = at; line = line })
-next_of (read none at line) = next.End
-next_of (refused r) = next.Refused r
+unfoldable pub next_of : Outcome Further → Result (Option Cursor) Refusal
+next_of (read (one r) at line) = Ok (Some (record { at = at; line = line }))
+next_of (read none at line) = Ok None
+next_of (refused r) = Err r
 
 -- whether a record of n points has no place in so many lent numbers; a count that is refused needs none
 unfoldable pub too_few : ℕ → ℕ → Bool
 too_few n size = count_ok most_points n && ltb size (record_size n)
 
 -- what the call leaves: the numbers as lent where they are too few, otherwise what was kept laid into them
-unfoldable pub next_left : List ℕ → ℕ → ℕ → ℕ → List ℤ → Leaves Next
+unfoldable pub next_left : List ℕ → ℕ → ℕ → ℕ → List ℤ → Leaves (Result (Option Cursor) Refusal)
 next_left s n at line lent =
     cond (too_few n (length lent))
-    (leaves (next.Refused (refusal Lent 0)) lent)
+    (leaves (Err (refusal Lent 0)) lent)
     (leaves (next_of (next_at s n at line)) (laid (kept_at s n at line) lent))
 
 -- ---- the whole text
@@ -114,18 +109,23 @@ unfoldable pub storm_rest : List ℕ → ℕ → ℕ → ℕ → Storm
 storm_rest s n at line = records_by s n (suc (length s)) at line
 
 -- the whole text, for a traverse of n points: the names line, and record after record
-abbrev pub storm_from : Lines → (ℕ → ℕ → Storm) → Storm
-storm_from (Read c) next = next c.at c.line
-storm_from (Refused r) next = none_more (stopped r)
+abbrev pub storm_from : Result Cursor Refusal → (ℕ → ℕ → Storm) → Storm
+storm_from (Ok c) next = next c.at c.line
+storm_from (Err r) next = none_more (stopped r)
 
 unfoldable pub storm_of : List ℕ → ℕ → Storm
 storm_of s n = storm_from (storm_start s) (storm_rest s n)
 
 -- ---- windows: w is a part of the text, and `last` says whether the text ends with it
 
+-- what reading the whole text answers, as reading in a window answers it
+abbrev pub answered : {A : Type 0} → Result A Refusal → Result A Halt
+answered (Ok x) = Ok x
+answered (Err r) = Err (halt.Refused r)
+
 -- the first line in a window, or that more of the text is needed
-unfoldable pub start_step : List ℕ → Bool → StartStep
-start_step w last = cond (holds (length w) last 0 32) (start.Answer (storm_start w)) start.More
+unfoldable pub start_step : List ℕ → Bool → Result Cursor Halt
+start_step w last = cond (holds (length w) last 0 32) (answered (storm_start w)) (Err halt.More)
 
 -- the bytes of the longest record, of 65 lines
 abbrev pub longest_record : ℕ
@@ -144,8 +144,8 @@ unfoldable pub record_step : List ℕ → Bool → ℕ → ℕ → ℕ → Seen
 record_step w last n at line = cond (holds_record (length w) last n at) (seen (next_at w n at line)) needs-more
 
 -- what the call leaves
-unfoldable pub record_step_left : List ℕ → Bool → ℕ → ℕ → ℕ → List ℤ → Leaves RecordStep
+unfoldable pub record_step_left : List ℕ → Bool → ℕ → ℕ → ℕ → List ℤ → Leaves (Result (Option Cursor) Halt)
 record_step_left w last n at line lent =
     cond (holds_record (length w) last n at)
-    (leaves (step.Answer (next_left w n at line lent).answer) (next_left w n at line lent).numbers)
-    (leaves step.More lent)
+    (leaves (answered (next_left w n at line lent).answer) (next_left w n at line lent).numbers)
+    (leaves (Err halt.More) lent)

@@ -1,7 +1,7 @@
 -- Document 01, "Files": a value is an optional minus and one to nine digits, without leading zero or minus nought.
 -- All goes by the byte at a place of the text, which is 0 past the text's end: no byte of a value, a space or a line feed.
 -- Assumes nothing.
-use Rattle.std.specs.Prelude.{ℕ, zero, suc, ◌+◌, ◌-◌, ◌*◌, List, Bool, true, false, cond, get_or, ℤ, pos, negsuc, neg_ℤ, ltb, eqb}
+use Rattle.std.specs.Prelude.{Option, Some, None, ℕ, zero, suc, ◌+◌, ◌-◌, ◌*◌, List, Bool, true, false, cond, get_or, ℤ, pos, negsuc, neg_ℤ, ltb, eqb}
 
 -- one more, of a count of lines or points; a count that no text reaches, 2⁶⁴ - 1, stays
 unfoldable pub more : ℕ → ℕ
@@ -16,6 +16,10 @@ digit_of b = cond (ltb b 48) 10 (cond (ltb 57 b) 10 (b - 48))
 
 unfoldable pub digit_at : List ℕ → ℕ → ℕ
 digit_at s i = digit_of (byte s i)
+
+-- the same as an option
+abbrev pub some_digit : List ℕ → ℕ → Option ℕ
+some_digit s i = cond (ltb (digit_at s i) 10) (Some (digit_at s i)) None
 
 -- how many digits stand from a place on, counted to n at most
 unfoldable pub digits : List ℕ → ℕ → ℕ → ℕ

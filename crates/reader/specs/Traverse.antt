@@ -1,25 +1,22 @@
 -- Document 01, "Files": the text of `traverse.txt`. Its points go into a slice that the caller lends, two numbers each: what is known of a
 -- traverse is a small struct and that slice's numbers, and reading on is said of both. Assumes nothing.
-use Rattle.std.specs.Prelude.{ℕ, zero, suc, ◌*◌, List, [], ◌∷◌, Bool, cond, length, take, replicate, ℤ, pos, ltb, eqb}
+use Rattle.std.specs.Prelude.{Result, Ok, Err, ℕ, zero, suc, ◌*◌, List, [], ◌∷◌, Bool, cond, length, take, replicate, ℤ, pos, ltb, eqb}
 use Rattle.records.specs.declared.Head.{Head}
 use Rattle.records.specs.declared.Station.{Station}
 use Rattle.records.specs.declared.Kind.TheVariants as kind
+use Rattle.records.specs.declared.Refusal.{Refusal}
 use Rattle.records.specs.Refusals.{refusal}
 use Rattle.records.specs.Groups.{at as number_at, station_at, station_count, put_station}
 use Rattle.records.specs.Limits.{count_ok, most_points}
 use Rattle.records.specs.Shapes.{Traverse, traverse}
 use Rattle.reader.specs.Text.{more}
 use Rattle.reader.specs.Lines.{Outcome, read, refused, found, Leaves, leaves, LinesRead, lines_at, names_at, holds}
-use Rattle.reader.specs.declared.Lines.{Lines}
-use Rattle.reader.specs.declared.Lines.TheVariants.{Read, Refused}
+use Rattle.reader.specs.declared.Cursor.{Cursor}
 use Rattle.reader.specs.declared.traverse.Part.{Part}
 use Rattle.reader.specs.declared.traverse.Part.TheVariants.{Names, Values, Columns, Points}
 use Rattle.reader.specs.declared.traverse.Known.{Known}
-use Rattle.reader.specs.declared.traverse.LineStep.{LineStep}
-use Rattle.reader.specs.declared.traverse.LineStep.TheVariants as step
 use Rattle.reader.specs.declared.traverse.TraverseRead.{TraverseRead}
-use Rattle.reader.specs.declared.traverse.TraverseStep.{TraverseStep}
-use Rattle.reader.specs.declared.traverse.Whole.TheVariants as whole
+use Rattle.reader.specs.declared.traverse.Progress.{Progress}
 use Rattle.reader.specs.declared.traverse.Progress.TheVariants as progress
 
 -- the names lines `latitude friction initial` and `distance depth`, with their line feeds
@@ -80,14 +77,14 @@ unfoldable pub line_at : List ℕ → Held → ℕ → ℕ → Outcome Held
 line_at s h at line = line_by s h.known.part h at line
 
 -- in the code's terms: what the line makes of what is known
-abbrev pub line_step : Lines → Known → LineStep
-line_step (Read c) k = step.Read c k
-line_step (Refused r) k = step.Refused r
+abbrev pub line_step : Result Cursor Refusal → Known → Result (Cursor × Known) Refusal
+line_step (Ok c) k = Ok (c, k)
+line_step (Err r) k = Err r
 
 -- what the call leaves: a refused line stores nothing
-unfoldable pub line_left : Held → Outcome Held → Leaves LineStep
-line_left h (read x at line) = leaves (step.Read (record { at = at; line = line }) x.known) x.points
-line_left h (refused r) = leaves (step.Refused r) h.points
+unfoldable pub line_left : Held → Outcome Held → Leaves (Result (Cursor × Known) Refusal)
+line_left h (read x at line) = leaves (Ok (record { at = at; line = line }, x.known)) x.points
+line_left h (refused r) = leaves (Err r) h.points
 
 -- ---- the end of the text
 
@@ -128,16 +125,16 @@ rest_by s (suc n) h at line = cond (ltb at (length s)) (on_rest h (line_at s h a
 unfoldable pub rest_at : List ℕ → Held → ℕ → ℕ → Leaves (Outcome Known)
 rest_at s h at line = rest_by s (length s) h at line
 
--- the answer for each case: what was read, or the refusal beside all zero
-unfoldable pub traverse_read : Outcome Known → TraverseRead
-traverse_read (read k at line) = record { answer = whole.Read; head = k.head; count = k.count }
-traverse_read (refused r) = record { answer = whole.Refused r; head = no_head; count = 0 }
+-- the answer for each case: what was read, or the refusal
+unfoldable pub traverse_read : Outcome Known → Result TraverseRead Refusal
+traverse_read (read k at line) = Ok (record { head = k.head; count = k.count })
+traverse_read (refused r) = Err r
 
 -- what a call leaves that reads the rest, and what one leaves that reads the whole text
-abbrev pub read_left : Leaves (Outcome Known) → Leaves TraverseRead
+abbrev pub read_left : Leaves (Outcome Known) → Leaves (Result TraverseRead Refusal)
 read_left x = leaves (traverse_read x.answer) x.numbers
 
-unfoldable pub traverse_left : List ℕ → List ℤ → Leaves TraverseRead
+unfoldable pub traverse_left : List ℕ → List ℤ → Leaves (Result TraverseRead Refusal)
 traverse_left s lent = read_left (rest_at s (held start lent) 0 0)
 
 -- the traverse that the text alone gives: its head and the numbers of its points, of which 65 have a place
@@ -154,30 +151,30 @@ traverse_of s = traverse_by (rest_at s (held start no_points) 0 0).answer (rest_
 -- ---- windows: w is a part of the text, and `last` says whether the text ends with it
 
 -- the step's answer where the text has ended or a line is refused
-unfoldable pub end_step : Outcome Known → TraverseStep
-end_step (read k at line) = record { answer = progress.Read; known = k }
-end_step (refused r) = record { answer = progress.Refused r; known = start }
+unfoldable pub end_step : Outcome Known → Result Progress Refusal
+end_step (read k at line) = Ok (progress.Read k)
+end_step (refused r) = Err r
 
-abbrev pub end_left : Leaves (Outcome Known) → Leaves TraverseStep
+abbrev pub end_left : Leaves (Outcome Known) → Leaves (Result Progress Refusal)
 end_left x = leaves (end_step x.answer) x.numbers
 
 -- after a line: the refusal, or what follows
-abbrev pub on_step : Held → Outcome Held → (Held → ℕ → ℕ → Leaves TraverseStep) → Leaves TraverseStep
+abbrev pub on_step : Held → Outcome Held → (Held → ℕ → ℕ → Leaves (Result Progress Refusal)) → Leaves (Result Progress Refusal)
 on_step h (read x at line) next = next x at line
 on_step h (refused r) next = leaves (end_step (refused r)) h.points
 
 -- where the next line may not be whole in the window: what is known, and the cursor
-abbrev pub more_step : Held → ℕ → ℕ → Leaves TraverseStep
-more_step h at line = leaves (record { answer = progress.More (record { at = at; line = line }); known = h.known }) h.points
+abbrev pub more_step : Held → ℕ → ℕ → Leaves (Result Progress Refusal)
+more_step h at line = leaves (Ok (progress.More (record { at = at; line = line }) h.known)) h.points
 
 -- the lines that the window holds, from a place on, each where 33 bytes are left, which three values can take; n of them are enough where no
 -- more bytes are left
-unfoldable pub step_at : List ℕ → Bool → ℕ → Held → ℕ → ℕ → Leaves TraverseStep
+unfoldable pub step_at : List ℕ → Bool → ℕ → Held → ℕ → ℕ → Leaves (Result Progress Refusal)
 step_at w last zero h at line = cond last (end_left (end_of h at line)) (more_step h at line)
 step_at w last (suc n) h at line =
     cond (holds (length w) last at 33)
     (cond (ltb at (length w)) (on_step h (line_at w h at line) (step_at w last n)) (end_left (end_of h at line)))
     (more_step h at line)
 
-unfoldable pub traverse_step : List ℕ → Bool → Held → ℕ → ℕ → Leaves TraverseStep
+unfoldable pub traverse_step : List ℕ → Bool → Held → ℕ → ℕ → Leaves (Result Progress Refusal)
 traverse_step w last h at line = step_at w last (length w) h at line

@@ -1,20 +1,18 @@
 -- Reading through windows. A window is a part of the text; `last` says whether the text ends with it.
 -- What a step finds in a window is said of the whole text, and reading by any windows is defined. Assumes nothing.
-use Rattle.std.specs.Prelude.{◌≡◌, Bool, true, false, cond, List, [], ◌∷◌, ◌++◌, ℕ, suc, ◌+◌, ◌-◌, ◌*◌, ◌<◌, ◌≤◌, length, take, drop, leb, ℤ}
+use Rattle.std.specs.Prelude.{Result, Ok, Err, ◌≡◌, Bool, true, false, cond, List, [], ◌∷◌, ◌++◌, ℕ, suc, ◌+◌, ◌-◌, ◌*◌, ◌<◌, ◌≤◌, length, take, drop, leb, ℤ}
+use Rattle.records.specs.declared.Refusal.{Refusal}
 use Rattle.records.specs.Shapes.{Record}
 use Rattle.reader.specs.Text.{byte}
 use Rattle.reader.specs.Lines.{Outcome, read, refused, Leaves, leaves, holds}
-use Rattle.reader.specs.Storm.{Stop, ended, stopped, paused, unread, Storm, none_more, storm_start, storm_by, storm_rest, storm_of, start_step, Seen, needs-more, seen, record_step}
-use Rattle.reader.specs.Traverse.{Held, held, start, no_head, rest_at, read_left, traverse_left, traverse_step}
-use Rattle.reader.specs.declared.Lines.TheVariants.{Read, Refused}
-use Rattle.reader.specs.declared.storm.StartStep.{StartStep}
-use Rattle.reader.specs.declared.storm.StartStep.TheVariants as start-step
-use Rattle.reader.specs.declared.traverse.Known.{Known}
+use Rattle.reader.specs.Storm.{Stop, ended, stopped, paused, unread, Storm, none_more, storm_start, storm_by, storm_rest, storm_of, answered, start_step, Seen, needs-more, seen, record_step}
+use Rattle.reader.specs.Traverse.{Held, held, start, rest_at, read_left, traverse_left, traverse_step}
+use Rattle.reader.specs.declared.Cursor.{Cursor}
+use Rattle.reader.specs.declared.storm.Halt.{Halt}
+use Rattle.reader.specs.declared.storm.Halt.TheVariants as halt
 use Rattle.reader.specs.declared.traverse.TraverseRead.{TraverseRead}
-use Rattle.reader.specs.declared.traverse.TraverseStep.{TraverseStep}
 use Rattle.reader.specs.declared.traverse.Progress.{Progress}
 use Rattle.reader.specs.declared.traverse.Progress.TheVariants as progress
-use Rattle.reader.specs.declared.traverse.Whole.TheVariants as whole
 
 -- w is the part of the text s from o on, and s ends with it where it is the last
 pub record Shows (s w : List ℕ) (o : ℕ) (last : Bool) : Type 0 where
@@ -28,13 +26,13 @@ moved o (read x at line) = read x (o + at) line
 moved o (refused r) = refused r
 
 -- what a step on a traverse text comes to: what it leaves, or what the rest of the text from where it stopped leaves
-abbrev pub carried_by : List ℕ → ℕ → Progress → Known → List ℤ → Leaves TraverseRead
-carried_by s o progress.Read k l = leaves (record { answer = whole.Read; head = k.head; count = k.count }) l
-carried_by s o (progress.More c) k l = read_left (rest_at s (held k l) (o + c.at) c.line)
-carried_by s o (progress.Refused r) k l = leaves (record { answer = whole.Refused r; head = no_head; count = 0 }) l
+abbrev pub carried_by : List ℕ → ℕ → Result Progress Refusal → List ℤ → Leaves (Result TraverseRead Refusal)
+carried_by s o (Ok (progress.Read k)) l = leaves (Ok (record { head = k.head; count = k.count })) l
+carried_by s o (Ok (progress.More c k)) l = read_left (rest_at s (held k l) (o + c.at) c.line)
+carried_by s o (Err r) l = leaves (Err r) l
 
-abbrev pub carried : List ℕ → ℕ → Leaves TraverseStep → Leaves TraverseRead
-carried s o x = carried_by s o x.answer.answer x.answer.known x.numbers
+abbrev pub carried : List ℕ → ℕ → Leaves (Result Progress Refusal) → Leaves (Result TraverseRead Refusal)
+carried s o x = carried_by s o x.answer x.numbers
 
 -- ---- any windows, one after another
 
@@ -58,22 +56,22 @@ last_of s c at = cond c.shown (leb (length s) (from_of c at + c.size)) false
 
 -- reading by windows: what it leaves, or how far it came when there are no more windows
 pub data TraverseRun : Type 0 where
-  done : Leaves TraverseRead → TraverseRun
+  done : Leaves (Result TraverseRead Refusal) → TraverseRun
   going : Held → ℕ → ℕ → TraverseRun
 
 -- after a step: what it leaves, or on with the next window
-abbrev pub run_on : ℕ → Progress → Known → List ℤ → (Held → ℕ → ℕ → TraverseRun) → TraverseRun
-run_on o progress.Read k l next = done (leaves (record { answer = whole.Read; head = k.head; count = k.count }) l)
-run_on o (progress.More c) k l next = next (held k l) (o + c.at) c.line
-run_on o (progress.Refused r) k l next = done (leaves (record { answer = whole.Refused r; head = no_head; count = 0 }) l)
+abbrev pub run_on : ℕ → Result Progress Refusal → List ℤ → (Held → ℕ → ℕ → TraverseRun) → TraverseRun
+run_on o (Ok (progress.Read k)) l next = done (leaves (Ok (record { head = k.head; count = k.count })) l)
+run_on o (Ok (progress.More c k)) l next = next (held k l) (o + c.at) c.line
+run_on o (Err r) l next = done (leaves (Err r) l)
 
-abbrev pub step_in : List ℕ → Cut → Held → ℕ → ℕ → Leaves TraverseStep
+abbrev pub step_in : List ℕ → Cut → Held → ℕ → ℕ → Leaves (Result Progress Refusal)
 step_in s c h at line = traverse_step (window_of s c at) (last_of s c at) h (at - from_of c at) line
 
 unfoldable pub traverse_run : List ℕ → List Cut → Held → ℕ → ℕ → TraverseRun
 traverse_run s [] h at line = going h at line
 traverse_run s (c ∷ cuts) h at line =
-    run_on (from_of c at) (step_in s c h at line).answer.answer (step_in s c h at line).answer.known (step_in s c h at line).numbers (traverse_run s cuts)
+    run_on (from_of c at) (step_in s c h at line).answer (step_in s c h at line).numbers (traverse_run s cuts)
 
 -- ---- a storm text
 
@@ -88,10 +86,10 @@ storm_run s n (c ∷ cuts) at line =
     storm_on (from_of c at) at line (record_step (window_of s c at) (last_of s c at) n (at - from_of c at) line) (storm_run s n cuts)
 
 -- the whole text by windows: its names line first
-abbrev pub start_on : StartStep → Storm → (ℕ → ℕ → Storm) → Storm
-start_on start-step.More again next = again
-start_on (start-step.Answer (Read c)) again next = next c.at c.line
-start_on (start-step.Answer (Refused r)) again next = none_more (stopped r)
+abbrev pub start_on : Result Cursor Halt → Storm → (ℕ → ℕ → Storm) → Storm
+start_on (Err halt.More) again next = again
+start_on (Ok c) again next = next c.at c.line
+start_on (Err (halt.Refused r)) again next = none_more (stopped r)
 
 unfoldable pub storm_text_run : List ℕ → ℕ → List Cut → Storm
 storm_text_run s n [] = none_more unread
@@ -99,7 +97,7 @@ storm_text_run s n (c ∷ cuts) = start_on (start_step (window_of s c 0) (last_o
 
 -- ---- what reading by windows comes to: its answer, and where the windows end before it, the rest of the text read whole
 
-abbrev pub traverse_done : List ℕ → TraverseRun → Leaves TraverseRead
+abbrev pub traverse_done : List ℕ → TraverseRun → Leaves (Result TraverseRead Refusal)
 traverse_done s (done x) = x
 traverse_done s (going h at line) = read_left (rest_at s h at line)
 
@@ -120,7 +118,7 @@ TraverseStepHolds =
     (s w : List ℕ) (o : ℕ) (last : Bool) → Shows s w o last → (h : Held) (at line : ℕ) → carried s o (traverse_step w last h at line) ≡ read_left (rest_at s h (o + at) line)
 
 abbrev pub StartStepHolds : Type 0
-StartStepHolds = (s w : List ℕ) (last : Bool) → Shows s w 0 last → holds (length w) last 0 32 ≡ true → start_step w last ≡ start-step.Answer (storm_start s)
+StartStepHolds = (s w : List ℕ) (last : Bool) → Shows s w 0 last → holds (length w) last 0 32 ≡ true → start_step w last ≡ answered (storm_start s)
 
 abbrev pub RecordStepHolds : Type 0
 RecordStepHolds =

@@ -6,14 +6,15 @@ use native.Mathlib.Omega.{arith}
 use borrow.Author.Tests.{eq-eqb, ne_eqb, eqb-true, eqb-false}
 use native.Mathlib.Numerals.{add-one}
 use native.Mathlib.Nat.{mul-div-le, mul-div_right, mul-mod_right, mul-le-mul_left, mul-suc, mul-zero}
-use Prim.Native.Nat.{ℕ, zero, suc, ◌+◌, ◌*◌, ◌/◌, ◌%◌, ◌≤◌, ◌<◌}
+use Prim.Native.Nat.{ℕ, zero, suc, ◌+◌, ◌-◌, ◌*◌, ◌/◌, ◌%◌, ◌≤◌, ◌<◌}
 use lib.Dec.{eqb}
 use lib.ListN.{length, get_or, take, drop, length-append, get_or-append}
-use lib.Seq.{sets, sets-eq, length-sets, take_at, take_all, get_or-take, get_or-append-add, get_or_at, ext_get_or, length-take-le}
+use borrow.Rule.Slice.PartMut.{put_mid}
+use lib.Seq.{sets, sets-eq, length-sets, take_at, take_all, get_or-take, get_or-append-add, get_or_at, get_or-drop, drop-drop, ext_get_or, length-take-le}
 use lib.IntN.{ℤ, pos}
 use Rattle.records.specs.declared.Point.{Point}
 use Rattle.records.specs.declared.Row.{Row}
-use Rattle.records.specs.Groups.{wholes, at, point_at, of_point, row_at, of_row, groups, flat}
+use Rattle.records.specs.Groups.{wholes, at, from, group_at, point_at, of_point, row_at, of_row, groups, flat}
 use Rattle.records.specs.Rows.{fresh_row}
 
 -- as many groups as are counted are there
@@ -41,6 +42,11 @@ halves p n h = by (eqb p (2 * n)) refl
     by true e = let q : p ≡ 2 * n = eqb-true p (2 * n) e in eq-eqb (p / 2) n (omega arith)
     by false e = ne_eqb (p / 2) n (λ q. eqb-false p (2 * n) e (omega arith))
 
+-- the number of a group is one of the list
+pub from-at : (l : List ℤ) (m i : ℕ) → from l m i ≡ at l (m + i)
+from-at l m zero = let z : m + 0 ≡ m = omega arith in rw z refl
+from-at l m (suc i) = refl
+
 -- ---- a group written at m
 
 module _ (vs l : List ℤ) (m : ℕ) (fit : m + length vs ≤ length l) where
@@ -67,6 +73,14 @@ module _ (vs l : List ℤ) (m : ℕ) (fit : m + length vs ≤ length l) where
       let q : p ≡ length (take m l) + k = e ∙ ap (λ (n : ℕ). n + k) (sym front) in
       ap (λ (z : List ℤ). at z p) (sets-eq vs l m fit) ∙ get_or-append (take m l ++ vs) (drop (m + length vs) l) (pos 0) p (omega arith)
       ∙ ap (at (take m l ++ vs)) q ∙ get_or-append-add (take m l) vs k (pos 0)
+
+-- a group read from its part of the list, and written there
+module _ (m k : ℕ) (l : List ℤ) (fit : m + k ≤ length l) where
+  pub part-from : (i : ℕ) → i < k → at (take (m + k - m) (drop m l)) i ≡ from l m i
+  part-from i h = let z : m + k - m ≡ k = omega arith in rw z (get_or-take k (drop m l) i (pos 0) h ∙ get_or-drop m l i (pos 0) ∙ sym (from-at l m i))
+
+  pub part-sets : (vs : List ℤ) → length vs ≡ k → put_mid m (m + k - m) l vs ≡ sets l m vs
+  part-sets vs h = let z : m + k - m ≡ length vs = omega arith in rw (z, drop-drop (length vs) m l) (sym (append_assoc (take m l) vs _) ∙ sym (sets-eq vs l m (omega arith)))
 
 -- ---- the first n groups by a view
 
@@ -98,6 +112,16 @@ flat-snoc : {A : Type 0} (numbers : A → List ℤ) (l : List A) (x : A) → fla
 unfolding flat
 flat-snoc numbers [] x = append-nil (numbers x)
 flat-snoc numbers (y ∷ l) x = ap (λ (z : List ℤ). numbers y ++ z) (flat-snoc numbers l x) ∙ sym (append_assoc (numbers y) (flat numbers l) (numbers x))
+
+-- the numbers of a part of each group
+pub flat-groups : {A B : Type 0} (numbers : B → List ℤ) (part : A → B) (view : ℕ → A) (n : ℕ) →
+    flat numbers (groups (λ i. part (view i)) n) ≡ flat (λ (x : A). numbers (part x)) (groups view n)
+unfolding groups flat
+flat-groups numbers part view zero = refl
+flat-groups numbers part view (suc n) =
+    flat-snoc numbers (groups (λ i. part (view i)) n) (part (view n))
+    ∙ ap (λ (z : List ℤ). z ++ numbers (part (view n))) (flat-groups numbers part view n)
+    ∙ sym (flat-snoc (λ x. numbers (part x)) (groups view n) (view n))
 
 pub record Stored {A : Type 0} (width : ℕ) (numbers : A → List ℤ) (view : ℕ → A) (n : ℕ) (out : List ℤ) (i : ℕ) : Type 0 where
   pub reach : i ≤ n
@@ -159,9 +183,16 @@ groups-at f d (suc n) i h = go (eqb i n) refl (groups-at f d n i)
 pub groups-list : {A : Type 0} (f : ℕ → A) (l : List A) (d : A) (n : ℕ) → length l ≡ n → ((i : ℕ) → i < n → get_or l i d ≡ f i) → l ≡ groups f n
 groups-list f l d n s h = ext_get_or d l (groups f n) (s ∙ sym (groups-length f n)) (λ i k. h i (omega arith) ∙ sym (groups-at f d n i (omega arith)))
 
+-- the numbers of a part of each of the first n elements of a list
+pub flat-list : {A B : Type 0} (numbers : B → List ℤ) (part : A → B) (l : List A) (d : A) (n : ℕ) → n ≤ length l →
+    flat numbers (groups (λ i. part (get_or l i d)) n) ≡ flat (λ (x : A). numbers (part x)) (take n l)
+flat-list numbers part l d n h =
+    flat-groups numbers part (λ i. get_or l i d) n
+    ∙ ap (flat (λ x. numbers (part x))) (sym (groups-list (λ i. get_or l i d) (take n l) d n (length-take-le n l h) (λ i k. get_or-take n l i d k)))
+
 -- row i of the numbers of rows, one after the other; past them all is zero
 pub row-flat : {A : Type 0} (row : A → Row) (l : List A) (i : ℕ) (d : A) → row d ≡ fresh_row → row_at (flat (λ (x : A). of_row (row x)) l) i ≡ row (get_or l i d)
-unfolding row_at flat
+unfolding group_at flat
 row-flat row [] i d e = sym e
 row-flat row (x ∷ l) zero d e = refl
 row-flat row (x ∷ l) (suc i) d e =
@@ -200,7 +231,7 @@ same_point e f g = rw (e, f, g)
 
 -- point i of the numbers of points
 pub point-flat : (l : List Point) (d : Point) (i : ℕ) → i < length l → point_at (flat of_point l) i ≡ get_or l i d
-unfolding point_at
+unfolding group_at
 point-flat l d i h =
     let read = flat-at 3 of_point (λ p. refl) l d i in
     let z : 3 * i ≡ 3 * i + 0 = omega arith in

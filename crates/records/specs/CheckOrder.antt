@@ -1,11 +1,19 @@
 -- The order of checks: the first that fails decides, and within it the first bad place. Every call checks what it is given by
 -- these, a row of the paper's table to a line.
-use Rattle.std.specs.Prelude.{◌≡◌, Bool, true, false, cond, List, [], ◌∷◌, ◌++◌, ℕ, zero, suc, ◌+◌, eqb}
-use Rattle.records.specs.declared.Check.{Check}
-use Rattle.records.specs.declared.Check.TheVariants.{Pass, Fail}
+use Rattle.std.specs.Prelude.{◌≡◌, Bool, true, false, cond, List, [], ◌∷◌, ◌++◌, ℕ, zero, suc, ◌+◌, eqb, Result, Ok, Err}
 use Rattle.records.specs.declared.Kind.{Kind}
 use Rattle.records.specs.declared.Refusal.{Refusal}
 use Rattle.records.specs.Refusals.{refusal}
+
+-- passed, or the refusal
+abbrev pub Check : Type 0
+Check = Result Unit Refusal
+
+abbrev pub Pass : Check
+Pass = Ok tt
+
+abbrev pub Fail : Refusal → Check
+Fail refusal = Err refusal
 
 -- a condition, or its refusal
 abbrev pub need : Bool → Refusal → Check
@@ -15,8 +23,8 @@ need false refusal = Fail refusal
 -- the first that fails decides
 infixr 20 ◌then◌
 abbrev pub ◌then◌ : Check → Check → Check
-Pass then c = c
-Fail refusal then c = Fail refusal
+Ok _ then c = c
+Err refusal then c = Fail refusal
 
 -- the first of n places from i on that is bad, counted from 1; 0 where there is none
 unfoldable pub first_bad : (ℕ → Bool) → ℕ → ℕ → ℕ

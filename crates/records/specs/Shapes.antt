@@ -2,6 +2,8 @@
 use Rattle.std.specs.Prelude.{List, ℕ, ℤ}
 use Rattle.records.specs.declared.Head.{Head}
 use Rattle.records.specs.declared.Closing.{Closing}
+use Rattle.records.specs.declared.Traverse as OfTraverse
+use Rattle.records.specs.declared.StormRecord as OfStorm
 use Rattle.records.specs.Groups.{station_count}
 
 -- two numbers a point, sea to shore
@@ -11,6 +13,10 @@ pub record Traverse : Type 0 where
 
 abbrev pub traverse : Head → List ℤ → Traverse
 traverse head points = record { head = head; points = points }
+
+-- one as it is lent
+abbrev pub traverse_of : OfTraverse.Traverse → Traverse
+traverse_of t = traverse t.head t.points.now
 
 -- how many points it has
 abbrev pub count : Traverse → ℕ
@@ -23,3 +29,7 @@ pub record Record : Type 0 where
 
 abbrev pub storm : Closing → List ℤ → Record
 storm closing points = record { closing = closing; points = points }
+
+-- one as it is lent
+abbrev pub storm_of : OfStorm.StormRecord → Record
+storm_of r = storm r.closing r.points.now

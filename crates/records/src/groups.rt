@@ -1,96 +1,255 @@
-// One group of a slice of numbers, read into a struct or written from one. All index arithmetic of groups stands here.
-ghost use Rattle.std.specs.Prelude.{◌≡◌, ◌+◌, ◌*◌, ◌<◌, length};
-ghost use Rattle.records.specs.Groups.{wholes, station_at, point_at, row_at, put_station, put_point, put_row};
+// A group of numbers in a slice, read into a struct or written from one. All index arithmetic of groups stands here, once for every kind of group.
+ghost use Rattle.std.specs.Prelude.{◌≡◌, ℕ, ℤ, List, ◌+◌, ◌*◌, ◌<◌, ◌≤◌, length, refl};
+ghost use Rattle.std.proofs.Common.{rules};
+ghost use Rattle.records.specs.Places.{Gives};
+ghost use Rattle.records.specs.Groups.{at, wholes, groups, flat, group_at, put_group, head_of, of_head, closing_of, of_closing, station_of, of_station, point_of, of_point, row_of, of_row, range_of, of_range};
 
-use super::{Point, Row, Station};
+use super::{Closing, Head, Point, Row, Station};
+use ranges::Range;
 
-// How many groups of `width` so many numbers are; a length that is no multiple counts as none.
-pub fn whole_groups(width: usize, len: usize) -> usize
-    requires { 0 < width }
-    ensures { result ≡ wholes width len }
+// What stands in a slice as so many numbers.
+pub trait Group: Copy {
+    const NUMBERS: usize;
+
+    ghost NUMBERS: { ℕ };
+
+    // What numbers stand for, and the numbers of one.
+    ghost of_numbers: { (ℕ → ℤ) → Self };
+
+    ghost numbers: { Self → List ℤ };
+
+    fn read(list: &[i64]) -> Self
+        requires { length list.now ≡ NUMBERS }
+        ensures { result ≡ of_numbers (at list.now) };
+
+    fn write(self, list: &mut [i64])
+        requires { length list.old ≡ NUMBERS }
+        ensures { list.new ≡ numbers self };
+
+    ghost some: { 0 < NUMBERS };
+
+    // No number past its own is looked at.
+    ghost near: { (f g : ℕ → ℤ) → ((k : ℕ) → k < NUMBERS → f k ≡ g k) → of_numbers f ≡ of_numbers g };
+
+    // What is written reads back.
+    ghost back: { (x : Self) → of_numbers (at (numbers x)) ≡ x };
+
+    ghost long: { (x : Self) → length (numbers x) ≡ NUMBERS };
+}
+
+// How many groups so many numbers are; a length that is no multiple counts as none.
+pub fn count<G: Group>(list: &[i64]) -> usize
+    ensures { result ≡ wholes G.NUMBERS (length list.now) }
 {
-    if len % width != 0 {
+    let len = list.len();
+    if len % G::NUMBERS != 0 {
         return 0;
     }
-    len / width
+    len / G::NUMBERS
 }
 
-pub fn station_at(points: &[i64], i: usize) -> Station
-    requires { 2 * i + 1 < length points.now }
-    ensures { result ≡ station_at points.now i }
+// Group i.
+pub fn group_at<G: Group>(list: &[i64], i: usize) -> G
+    requires { G.NUMBERS * i + G.NUMBERS ≤ length list.now }
+    ensures { result ≡ group_at G.of_numbers G.NUMBERS list.now i }
 {
-    let at = Station::NUMBERS * i;
-    let distance = points[at];
-    let depth = points[at + 1];
-    Station {
-        distance: distance,
-        depth: depth,
+    let at = G::NUMBERS * i;
+    G::read(&list[at..at + G::NUMBERS])
+}
+
+// Writes group i.
+pub fn store_group<G: Group>(list: &mut [i64], i: usize, group: G)
+    requires { G.NUMBERS * i + G.NUMBERS ≤ length list.old }
+    ensures { list.new ≡ put_group G.numbers G.NUMBERS list.old i group }
+{
+    let at = G::NUMBERS * i;
+    group.write(&mut list[at..at + G::NUMBERS]);
+}
+
+// Fills a list with n groups, each by its number.
+pub fn fill<G: Group, F: Fn(usize) -> G>(list: &mut [i64], n: usize, group: F)
+    requires callable { (i : ℕ) → i < n → F.pre group i }
+    requires room { length list.old ≡ G.NUMBERS * n }
+    ensures { (view : ℕ → G) → Gives (F.post group) n view → list.new ≡ flat G.numbers (groups view n) }
+{
+    for i in 0..n {
+        store_group(list, i, group(i));
     }
 }
 
-pub fn store_station(points: &mut [i64], i: usize, station: Station)
-    requires { 2 * i + 1 < length points.old }
-    ensures { points.new ≡ put_station points.old i station }
-{
-    let at = Station::NUMBERS * i;
-    let distance = station.distance;
-    let depth = station.depth;
-    points[at] = distance;
-    points[at + 1] = depth;
-}
+impl Group for Head {
+    const NUMBERS: usize = 3;
 
-pub fn point_at(storm: &[i64], i: usize) -> Point
-    requires { 3 * i + 2 < length storm.now }
-    ensures { result ≡ point_at storm.now i }
-{
-    let at = Point::NUMBERS * i;
-    let wind = storm[at];
-    let angle = storm[at + 1];
-    let deficit = storm[at + 2];
-    Point {
-        wind: wind,
-        angle: angle,
-        deficit: deficit,
+    ghost NUMBERS = { 3 };
+
+    ghost of_numbers = { head_of };
+
+    ghost numbers = { of_head };
+
+    ghost some = { Prim.search rules };
+
+    ghost near = { λ f g h. Prim.rw (h 0 (Prim.search rules), h 1 (Prim.search rules), h 2 (Prim.search rules)) refl };
+
+    ghost back = { λ x. refl };
+
+    ghost long = { λ x. refl };
+
+    fn read(list: &[i64]) -> Self {
+        Head {
+            latitude: list[0],
+            friction: list[1],
+            initial: list[2],
+        }
+    }
+
+    fn write(self, list: &mut [i64]) {
+        list.copy_from_slice(&[self.latitude, self.friction, self.initial]);
     }
 }
 
-pub fn store_point(storm: &mut [i64], i: usize, point: Point)
-    requires { 3 * i + 2 < length storm.old }
-    ensures { storm.new ≡ put_point storm.old i point }
-{
-    let at = Point::NUMBERS * i;
-    let wind = point.wind;
-    let angle = point.angle;
-    let deficit = point.deficit;
-    storm[at] = wind;
-    storm[at + 1] = angle;
-    storm[at + 2] = deficit;
-}
+impl Group for Closing {
+    const NUMBERS: usize = 2;
 
-pub fn row_at(rows: &[i64], i: usize) -> Row
-    requires { 3 * i + 2 < length rows.now }
-    ensures { result ≡ row_at rows.now i }
-{
-    let at = Row::NUMBERS * i;
-    let low = rows[at];
-    let high = rows[at + 1];
-    let cross = rows[at + 2];
-    Row {
-        low: low,
-        high: high,
-        cross: cross,
+    ghost NUMBERS = { 2 };
+
+    ghost of_numbers = { closing_of };
+
+    ghost numbers = { of_closing };
+
+    ghost some = { Prim.search rules };
+
+    ghost near = { λ f g h. Prim.rw (h 0 (Prim.search rules), h 1 (Prim.search rules)) refl };
+
+    ghost back = { λ x. refl };
+
+    ghost long = { λ x. refl };
+
+    fn read(list: &[i64]) -> Self {
+        Closing {
+            seconds: list[0],
+            tide: list[1],
+        }
+    }
+
+    fn write(self, list: &mut [i64]) {
+        list.copy_from_slice(&[self.seconds, self.tide]);
     }
 }
 
-pub fn store_row(rows: &mut [i64], i: usize, row: Row)
-    requires { 3 * i + 2 < length rows.old }
-    ensures { rows.new ≡ put_row rows.old i row }
-{
-    let at = Row::NUMBERS * i;
-    let low = row.low;
-    let high = row.high;
-    let cross = row.cross;
-    rows[at] = low;
-    rows[at + 1] = high;
-    rows[at + 2] = cross;
+impl Group for Station {
+    const NUMBERS: usize = 2;
+
+    ghost NUMBERS = { 2 };
+
+    ghost of_numbers = { station_of };
+
+    ghost numbers = { of_station };
+
+    ghost some = { Prim.search rules };
+
+    ghost near = { λ f g h. Prim.rw (h 0 (Prim.search rules), h 1 (Prim.search rules)) refl };
+
+    ghost back = { λ x. refl };
+
+    ghost long = { λ x. refl };
+
+    fn read(list: &[i64]) -> Self {
+        Station {
+            distance: list[0],
+            depth: list[1],
+        }
+    }
+
+    fn write(self, list: &mut [i64]) {
+        list.copy_from_slice(&[self.distance, self.depth]);
+    }
+}
+
+impl Group for Point {
+    const NUMBERS: usize = 3;
+
+    ghost NUMBERS = { 3 };
+
+    ghost of_numbers = { point_of };
+
+    ghost numbers = { of_point };
+
+    ghost some = { Prim.search rules };
+
+    ghost near = { λ f g h. Prim.rw (h 0 (Prim.search rules), h 1 (Prim.search rules), h 2 (Prim.search rules)) refl };
+
+    ghost back = { λ x. refl };
+
+    ghost long = { λ x. refl };
+
+    fn read(list: &[i64]) -> Self {
+        Point {
+            wind: list[0],
+            angle: list[1],
+            deficit: list[2],
+        }
+    }
+
+    fn write(self, list: &mut [i64]) {
+        list.copy_from_slice(&[self.wind, self.angle, self.deficit]);
+    }
+}
+
+impl Group for Row {
+    const NUMBERS: usize = 3;
+
+    ghost NUMBERS = { 3 };
+
+    ghost of_numbers = { row_of };
+
+    ghost numbers = { of_row };
+
+    ghost some = { Prim.search rules };
+
+    ghost near = { λ f g h. Prim.rw (h 0 (Prim.search rules), h 1 (Prim.search rules), h 2 (Prim.search rules)) refl };
+
+    ghost back = { λ x. refl };
+
+    ghost long = { λ x. refl };
+
+    fn read(list: &[i64]) -> Self {
+        Row {
+            low: list[0],
+            high: list[1],
+            cross: list[2],
+        }
+    }
+
+    fn write(self, list: &mut [i64]) {
+        list.copy_from_slice(&[self.low, self.high, self.cross]);
+    }
+}
+
+impl Group for Range {
+    const NUMBERS: usize = 2;
+
+    ghost NUMBERS = { 2 };
+
+    ghost of_numbers = { range_of };
+
+    ghost numbers = { of_range };
+
+    ghost some = { Prim.search rules };
+
+    ghost near = { λ f g h. Prim.rw (h 0 (Prim.search rules), h 1 (Prim.search rules)) refl };
+
+    ghost back = { λ x. refl };
+
+    ghost long = { λ x. refl };
+
+    fn read(list: &[i64]) -> Self {
+        Range {
+            low: list[0],
+            high: list[1],
+        }
+    }
+
+    fn write(self, list: &mut [i64]) {
+        list.copy_from_slice(&[self.low, self.high]);
+    }
 }

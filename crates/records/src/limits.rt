@@ -1,5 +1,7 @@
 // The limits of document 01's table of quantities, by name, and the tests against them. Both ends belong to a limit. Those of a row stand
 // with the row. `specs/Limits.antt` has the same numbers for the definitions.
+#![tactic(auto, unfolding(crate::specs::Limits::inside, crate::specs::Limits::range_inside, crate::specs::Limits::count_ok, crate::specs::Limits::head_ok, crate::specs::Limits::station_ok, crate::specs::Limits::point_ok, crate::specs::Limits::calm_ok, crate::specs::Limits::row_ok, crate::specs::Limits::seconds_ok))]
+
 ghost use Rattle.std.specs.Prelude.{◌≡◌};
 ghost use Rattle.records.specs.Limits.{inside, range_inside, count_ok, head_ok, station_ok, point_ok, calm, calm_ok, row_ok, seconds_ok};
 
@@ -14,175 +16,143 @@ pub const POINTS_MOST: usize = 65;
 
 pub const SEGMENTS_MOST: usize = 64;
 
-pub const LATITUDE_LOW: i64 = 0;
+pub const LATITUDE: Range = Range { low: 0, high: 900 };
 
-pub const LATITUDE_HIGH: i64 = 900;
+pub const FRICTION: Range = Range { low: 10, high: 50 };
 
-pub const FRICTION_LOW: i64 = 10;
+pub const INITIAL: Range = Range {
+    low: -1_000,
+    high: 1_000,
+};
 
-pub const FRICTION_HIGH: i64 = 50;
+pub const DISTANCE: Range = Range {
+    low: 0,
+    high: 6_400,
+};
 
-// Either way.
-pub const INITIAL: i64 = 1_000;
-
-pub const DISTANCE_LOW: i64 = 0;
-
-pub const DISTANCE_HIGH: i64 = 6_400;
-
-pub const DEPTH_LOW: i64 = 0;
-
-pub const DEPTH_HIGH: i64 = 10_000;
+pub const DEPTH: Range = Range {
+    low: 0,
+    high: 10_000,
+};
 
 // Of a segment: how much less a distance is than the one before.
-pub const LENGTH_LOW: i64 = 1;
+pub const LENGTH: Range = Range { low: 1, high: 100 };
 
-pub const LENGTH_HIGH: i64 = 100;
+// The last distance: the last point is the shore.
+pub const SHORE: Range = Range { low: 0, high: 0 };
 
 // ---- a record
 
-pub const FIRST_SECONDS: i64 = 0;
+// Of a first record, and of a later one.
+pub const FIRST_SECONDS: Range = Range { low: 0, high: 0 };
 
-pub const SECONDS_LOW: i64 = 1;
+pub const SECONDS: Range = Range {
+    low: 1,
+    high: 3_600,
+};
 
-// The longest seconds of a record.
-pub const SECONDS_HIGH: i64 = 3_600;
+pub const TIDE: Range = Range {
+    low: -2_000,
+    high: 2_000,
+};
 
-// Either way.
-pub const TIDE: i64 = 2_000;
+pub const WIND: Range = Range {
+    low: 0,
+    high: 2_000,
+};
 
-pub const WIND_LOW: i64 = 0;
-
-pub const WIND_HIGH: i64 = 2_000;
-
-pub const ANGLE_LOW: i64 = 0;
-
-pub const ANGLE_HIGH: i64 = 3_599;
+pub const ANGLE: Range = Range {
+    low: 0,
+    high: 3_599,
+};
 
 // The wind that is a calm, and the angle that it carries.
 pub const CALM: i64 = 0;
 
 pub const CALM_ANGLE: i64 = 0;
 
-pub const DEFICIT_LOW: i64 = 0;
+pub const DEFICIT: Range = Range { low: 0, high: 300 };
 
-pub const DEFICIT_HIGH: i64 = 300;
-
-pub const ELAPSED_LOW: i64 = 0;
-
-pub const ELAPSED_HIGH: i64 = 1_000_000_000;
+pub const ELAPSED: Range = Range {
+    low: 0,
+    high: 1_000_000_000,
+};
 
 // ---- a march
 
-pub const WATER_LOW: i64 = 100;
+pub const WATER: Range = Range {
+    low: 100,
+    high: 100_000,
+};
 
-pub const WATER_HIGH: i64 = 100_000;
-
-// Either way.
-pub const SETUP: i64 = 1_000_000;
+pub const SETUP: Range = Range {
+    low: -1_000_000,
+    high: 1_000_000,
+};
 
 // ---- the tests
 
-// low ≤ x ≤ high
-pub fn inside(x: i64, low: i64, high: i64) -> bool
-    ensures { result ≡ inside low high x }
+// limits.low ≤ x ≤ limits.high
+pub fn inside(x: i64, limits: Range) -> bool
+    ensures { result ≡ inside limits.low limits.high x }
 {
-    if x < low {
-        return false;
-    }
-    x <= high
+    limits.low <= x && x <= limits.high
 }
 
 // Both ends of a range.
-pub fn range_inside(r: Range, low: i64, high: i64) -> bool
-    ensures { result ≡ range_inside low high r }
+pub fn range_inside(r: Range, limits: Range) -> bool
+    ensures { result ≡ range_inside limits.low limits.high r }
 {
-    if inside(r.low, low, high) {
-        return inside(r.high, low, high);
-    }
-    false
+    inside(r.low, limits) && inside(r.high, limits)
 }
 
 // Whether a traverse may have so many points, where it may have `most`.
 pub fn count_ok(most: usize, n: usize) -> bool
     ensures { result ≡ count_ok most n }
 {
-    if n < POINTS_LEAST {
-        return false;
-    }
-    n <= most
+    (POINTS_LEAST..=most).contains(&n)
 }
 
 pub fn head_ok(h: Head) -> bool
     ensures { result ≡ head_ok h }
 {
-    if !inside(h.latitude, LATITUDE_LOW, LATITUDE_HIGH) {
-        return false;
-    }
-    if !inside(h.friction, FRICTION_LOW, FRICTION_HIGH) {
-        return false;
-    }
-    inside(h.initial, -INITIAL, INITIAL)
+    inside(h.latitude, LATITUDE) && inside(h.friction, FRICTION) && inside(h.initial, INITIAL)
 }
 
 pub fn station_ok(s: Station) -> bool
     ensures { result ≡ station_ok s }
 {
-    if !inside(s.distance, DISTANCE_LOW, DISTANCE_HIGH) {
-        return false;
-    }
-    inside(s.depth, DEPTH_LOW, DEPTH_HIGH)
+    inside(s.distance, DISTANCE) && inside(s.depth, DEPTH)
 }
 
 pub fn point_ok(p: Point) -> bool
     ensures { result ≡ point_ok p }
 {
-    if !inside(p.wind, WIND_LOW, WIND_HIGH) {
-        return false;
-    }
-    if !inside(p.angle, ANGLE_LOW, ANGLE_HIGH) {
-        return false;
-    }
-    inside(p.deficit, DEFICIT_LOW, DEFICIT_HIGH)
+    inside(p.wind, WIND) && inside(p.angle, ANGLE) && inside(p.deficit, DEFICIT)
 }
 
 pub fn is_calm(wind: i64) -> bool
     ensures { result ≡ calm wind }
 {
-    inside(wind, CALM, CALM)
+    wind == CALM
 }
 
 // A calm has no direction: a wind of 0 carries angle 0.
 pub fn calm_ok(p: Point) -> bool
     ensures { result ≡ calm_ok p }
 {
-    if !is_calm(p.wind) {
-        return true;
-    }
-    inside(p.angle, CALM_ANGLE, CALM_ANGLE)
+    !is_calm(p.wind) || p.angle == CALM_ANGLE
 }
 
 pub fn row_ok(v: Row) -> bool
     ensures { result ≡ row_ok v }
 {
-    if v.high < v.low {
-        return false;
-    }
-    let flux = Range {
-        low: v.low,
-        high: v.high,
-    };
-    if !range_inside(flux, -Row::FLUX, Row::FLUX) {
-        return false;
-    }
-    inside(v.cross, -Row::CROSS, Row::CROSS)
+    v.low <= v.high && range_inside(v.flux(), Row::FLUX) && inside(v.cross, Row::CROSS)
 }
 
 // Seconds of a first record, and of a later one.
 pub fn seconds_ok(started: bool, seconds: i64) -> bool
     ensures { result ≡ seconds_ok started seconds }
 {
-    if started {
-        return inside(seconds, SECONDS_LOW, SECONDS_HIGH);
-    }
-    inside(seconds, FIRST_SECONDS, FIRST_SECONDS)
+    inside(seconds, if started { SECONDS } else { FIRST_SECONDS })
 }

@@ -13,8 +13,9 @@ use Rattle.forcing.specs.Force.{force_of}
 use Rattle.records.specs.declared.Row.{Row}
 use Rattle.segment.specs.declared.Site.{Site}
 use Rattle.segment.specs.declared.Weather.{Weather}
-use Rattle.segment.specs.declared.SegmentAnswer.{SegmentAnswer}
-use Rattle.segment.specs.declared.SegmentAnswer.TheVariants.{On, Stop}
+use Rattle.segment.specs.declared.Leg.{Leg}
+use Rattle.records.specs.declared.Refusal.{Refusal}
+use Rattle.std.specs.Prelude.{Result, Ok, Err}
 use Rattle.records.specs.Limits.{inside, range_inside}
 use Rattle.records.specs.Refusals.{number_of}
 use Rattle.records.specs.Rows.{fresh_row}
@@ -74,12 +75,12 @@ segment-runs = refl
 -- ---- "Edges: δ 100 and 100,000 pass, 99 and 100,001 get 10"
 
 -- the number of a refusal; 0 for none
-abbrev number : SegmentAnswer → ℕ
-number (On leg) = 0
-number (Stop refusal) = number_of refusal.kind
+abbrev number : Result Leg Refusal → ℕ
+number (Ok leg) = 0
+number (Err refusal) = number_of refusal.kind
 
 -- a first record without wind, over two points whose depths have such a sum
-abbrev still : ℤ → ℤ → SegmentAnswer
+abbrev still : ℤ → ℤ → Result Leg Refusal
 still depths level = segment_of 1 true (record { length = pos 10; depths = depths; sine = pos 5000; friction = pos 25 }) (at_level level (weather (pos 0) (pos 0) (pos 0))) fresh_row (one (pos 0))
 
 pub depth-edges : map number (still (pos 0) (pos 99) ∷ still (pos 0) (pos 100) ∷ still (pos 20000) (pos 0) ∷ still (pos 20000) (pos 1) ∷ []) ≡ 10 ∷ 0 ∷ 0 ∷ 10 ∷ []

@@ -13,7 +13,7 @@ use Rattle.records.specs.declared.Row.{Row}
 use Rattle.segment.specs.declared.Site.{Site}
 use Rattle.segment.specs.declared.Weather.{Weather}
 use Rattle.segment.specs.declared.Leg.{Leg}
-use Rattle.segment.specs.declared.SegmentAnswer.TheVariants.{On}
+use Rattle.std.specs.Prelude.{Ok}
 use Rattle.records.specs.Rows.{row_flux}
 use Rattle.segment.specs.Segment.{drag, flux_of, next_setup, segment_depth, segment_flux, segment_gain, segment_of, SiteIn, WeatherIn}
 use Rattle.segment.specs.ExactSegment.{Kept, exact_depth, exact_flux, exact_gain, exact_segment, flux_at, SegmentWithin}
@@ -31,7 +31,7 @@ flux-within first a w v δ k y c0 p δo i same j = go first ((flux-outward first
     go true h = h
     go false h = rw (← same) h
 
-pub segment-within : (place : ℕ) (first : Bool) (a : Site) (w : Weather) (v : Row) (s : Range) (leg : Leg) (k : Kept) (x : Frac) → segment_of place first a w v s ≡ On leg →
+pub segment-within : (place : ℕ) (first : Bool) (a : Site) (w : Weather) (v : Row) (s : Range) (leg : Leg) (k : Kept) (x : Frac) → segment_of place first a w v s ≡ Ok leg →
     SiteIn a → WeatherIn w → Within s x → Within (row_flux v) k.v → v.cross ≡ k.cross → SegmentWithin a w s x leg (exact_segment first a w k x)
 unfolding exact_segment next_setup
 segment-within place first a w v s leg k x e i j xs kv same =

@@ -10,7 +10,7 @@ use Rattle.records.specs.declared.Row.{Row}
 use Rattle.segment.specs.declared.Site.{Site}
 use Rattle.segment.specs.declared.Weather.{Weather}
 use Rattle.segment.specs.declared.Leg.{Leg}
-use Rattle.segment.specs.declared.SegmentAnswer.TheVariants.{On, Stop}
+use Rattle.std.specs.Prelude.{Result, Ok, Err}
 use Rattle.records.specs.declared.Refusal.{Refusal}
 use Rattle.records.specs.declared.Kind.TheVariants.{Depth, Flux, Setup}
 use Rattle.records.specs.Refusals.{refusal}
@@ -26,18 +26,18 @@ pub record Passed (first : Bool) (a : Site) (w : Weather) (v : Row) (s : Range) 
   pub setup : setup_ok (segment_setup first a w v s) ≡ true
   pub is : leg ≡ leg_of (segment_flux first a w v s) w.cross (segment_setup first a w v s)
 
-never : (refusal : Refusal) (leg : Leg) → Stop refusal ≡ On leg → ⊥
+never : (refusal : Refusal) (leg : Leg) → Err refusal ≡ Ok leg → ⊥
 never refusal leg e = let z : ◌≡◌ {A = ℕ} 0 1 = cc in omega arith
 
-pub segment-on : (place : ℕ) (first : Bool) (a : Site) (w : Weather) (v : Row) (s : Range) (leg : Leg) → segment_of place first a w v s ≡ On leg → Passed first a w v s leg
+pub segment-on : (place : ℕ) (first : Bool) (a : Site) (w : Weather) (v : Row) (s : Range) (leg : Leg) → segment_of place first a w v s ≡ Ok leg → Passed first a w v s leg
 unfolding segment_of
 segment-on place first a w v s leg e = go (water_ok (segment_depth a w s)) (flux_ok (segment_flux first a w v s)) (setup_ok (segment_setup first a w v s)) refl refl refl e
   where
     go : (t u z : Bool) → water_ok (segment_depth a w s) ≡ t → flux_ok (segment_flux first a w v s) ≡ u → setup_ok (segment_setup first a w v s) ≡ z →
-        cond t (cond u (cond z (On (leg_of (segment_flux first a w v s) w.cross (segment_setup first a w v s))) (Stop (refusal Setup place))) (Stop (refusal Flux place))) (Stop (refusal Depth place)) ≡ On leg → Passed first a w v s leg
+        cond t (cond u (cond z (Ok (leg_of (segment_flux first a w v s) w.cross (segment_setup first a w v s))) (Err (refusal Setup place))) (Err (refusal Flux place))) (Err (refusal Depth place)) ≡ Ok leg → Passed first a w v s leg
     go true true true x y z e = record { water = x; flux = y; setup = z; is = same _ _ e }
       where
-        same : (p q : Leg) → On p ≡ On q → q ≡ p
+        same : (p q : Leg) → ◌≡◌ {A = Result Leg Refusal} (Ok p) (Ok q) → q ≡ p
         same p q e = cc
     go true true false x y z e = absurd (never (refusal Setup place) leg e)
     go true false t x y z e = absurd (never (refusal Flux place) leg e)

@@ -23,7 +23,7 @@ use Rattle.records.specs.declared.Row.{Row}
 use Rattle.segment.specs.declared.Site.{Site}
 use Rattle.segment.specs.declared.Weather.{Weather}
 use Rattle.segment.specs.declared.Leg.{Leg}
-use Rattle.segment.specs.declared.SegmentAnswer.TheVariants.{On}
+use Rattle.std.specs.Prelude.{Ok}
 use Rattle.records.specs.Rows.{row_flux}
 use Rattle.segment.specs.Segment.{depth_base, depth_of, drag, segment_force, flux_of, gain_top, gain_of, next_setup, segment_depth, segment_flux, segment_gain, segment_of, SiteIn, WeatherIn}
 use Rattle.segment.specs.ExactSegment.{exact_depth, exact_gain, DepthChoice, depth_at, FluxChoice, flux_at, GainChoice, gain_at, SegmentOutward}
@@ -157,7 +157,7 @@ pub setup-ordered : (s g : Range) → Ordered s → Ordered g → Ordered (next_
 unfolding next_setup
 setup-ordered s g h k = zomega (s.low ∷ s.high ∷ g.low ∷ g.high ∷ []) (h & k) (search says depth 20) (omega arith)
 
-pub segment-outward : (place : ℕ) (first : Bool) (a : Site) (w : Weather) (v : Row) (s : Range) (leg : Leg) → segment_of place first a w v s ≡ On leg →
+pub segment-outward : (place : ℕ) (first : Bool) (a : Site) (w : Weather) (v : Row) (s : Range) (leg : Leg) → segment_of place first a w v s ≡ Ok leg →
     SiteIn a → WeatherIn w → Ordered (row_flux v) → Ordered s → SegmentOutward first a w v s × Ordered leg.setup × Ordered (row_flux leg.row)
 segment-outward place first a w v s leg e i j vo so =
     let k = segment-on place first a w v s leg e in

@@ -1,5 +1,5 @@
 -- One segment of a record, in ranges: document 01's "One record", steps 1 to 4, a line of the paper to a line here.
-use Rattle.std.specs.Prelude.{Bool, true, false, cond, ℕ, ℤ, pos, ◌+ℤ◌, ◌*ℤ◌, ◌≤ℤ◌}
+use Rattle.std.specs.Prelude.{Bool, true, false, cond, ℕ, ℤ, pos, ◌+ℤ◌, ◌*ℤ◌, ◌≤ℤ◌, Result, Ok, Err}
 use Rattle.ranges.specs.declared.Range.{Range}
 use Rattle.ranges.specs.Bounds.{Sized}
 use Rattle.ranges.specs.Quotient.{quotient_of}
@@ -9,8 +9,7 @@ use Rattle.records.specs.declared.Row.{Row}
 use Rattle.segment.specs.declared.Site.{Site}
 use Rattle.segment.specs.declared.Weather.{Weather}
 use Rattle.segment.specs.declared.Leg.{Leg}
-use Rattle.segment.specs.declared.SegmentAnswer.{SegmentAnswer}
-use Rattle.segment.specs.declared.SegmentAnswer.TheVariants.{On, Stop}
+use Rattle.records.specs.declared.Refusal.{Refusal}
 use Rattle.records.specs.declared.Kind.TheVariants.{Depth, Flux, Setup}
 use Rattle.records.specs.Refusals.{refusal}
 use Rattle.records.specs.Limits.{water_ok, flux_ok, setup_ok}
@@ -66,13 +65,13 @@ abbrev pub leg_of : Range → ℤ → Range → Leg
 leg_of flux cross s = record { row = record { low = flux.low; high = flux.high; cross = cross }; setup = s }
 
 -- "The march takes 10, 11 and 12 for one segment before it begins the next." `place` is the segment's number, from 1
-unfoldable pub segment_of : ℕ → Bool → Site → Weather → Row → Range → SegmentAnswer
+unfoldable pub segment_of : ℕ → Bool → Site → Weather → Row → Range → Result Leg Refusal
 segment_of place first a w v s =
     cond (water_ok (segment_depth a w s))
     (cond (flux_ok (segment_flux first a w v s))
-    (cond (setup_ok (segment_setup first a w v s)) (On (leg_of (segment_flux first a w v s) w.cross (segment_setup first a w v s))) (Stop (refusal Setup place)))
-    (Stop (refusal Flux place)))
-    (Stop (refusal Depth place))
+    (cond (setup_ok (segment_setup first a w v s)) (Ok (leg_of (segment_flux first a w v s) w.cross (segment_setup first a w v s))) (Err (refusal Setup place)))
+    (Err (refusal Flux place)))
+    (Err (refusal Depth place))
 
 -- "Shore height: last S plus 100·(initial + tide) plus 114·(deficit at the shore point)": what it has beside S
 unfoldable pub shore_base : ℤ → ℤ → ℤ

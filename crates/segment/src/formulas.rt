@@ -5,10 +5,10 @@ ghost use Rattle.ranges.specs.Bounds.{Sized};
 ghost use Rattle.records.specs.Limits.{water_ok, flux_ok};
 ghost use Rattle.segment.specs.Segment.{GainIn, ShoreIn, shore_base, depth_of, flux_of, gain_top, gain_of, next_setup, leg_of, segment_of, SiteIn, WeatherIn, RowIn, SetupIn, SegmentIn};
 
-use super::{Leg, SegmentAnswer, Site, Weather};
+use super::{Leg, Site, Weather};
 use ranges::Range;
-use records::limits::{SETUP, WATER_HIGH, WATER_LOW, range_inside};
-use records::{Kind, Refusal, Row};
+use records::limits::{SETUP, WATER, range_inside};
+use records::{Kind, Refusal, Row, need};
 
 // Half of a sum of two depths, 0.1 ft each, in 0.0001 ft.
 const HALF_DEPTHS: i64 = 500;
@@ -58,10 +58,7 @@ pub fn flux_range(first: bool, site: Site, weather: Weather, row: Row, depth: Ra
     requires { (SiteIn site) × (WeatherIn weather) × (RowIn row) × (water_ok depth ≡ true) }
     ensures { result ≡ flux_of first site weather row depth }
 {
-    let old = Range {
-        low: row.low,
-        high: row.high,
-    };
+    let old = row.flux();
     if first {
         return old;
     }
@@ -84,10 +81,7 @@ pub fn gain_range(site: Site, weather: Weather, flux: Range, depth: Range) -> Ra
 {
     let low = gain_top(site, weather, flux.low);
     let high = gain_top(site, weather, flux.high);
-    let top = Range {
-        low: low,
-        high: high,
-    };
+    let top = Range { low, high };
     let bottom = Range {
         low: GAIN_UNIT * depth.low,
         high: GAIN_UNIT * depth.high,
@@ -114,13 +108,14 @@ pub fn leg_of(flux: Range, cross: i64, setup: Range) -> Leg
         row: Row {
             low: flux.low,
             high: flux.high,
-            cross: cross,
+            cross,
         },
-        setup: setup,
+        setup,
     }
 }
 
 // The segment numbered `place`, from 1.
+#[tactic(auto, unfolding(crate::specs::Segment::segment_of))]
 pub fn march_segment(
     place: usize,
     first: bool,
@@ -128,33 +123,21 @@ pub fn march_segment(
     weather: Weather,
     row: Row,
     setup: Range,
-) -> SegmentAnswer
+) -> Result<Leg, Refusal>
     requires { SegmentIn site weather row setup }
     ensures { result ≡ segment_of place first site weather row setup }
 {
     let depth = depth_range(site, weather, setup);
-    if !range_inside(depth, WATER_LOW, WATER_HIGH) {
-        return SegmentAnswer::Stop(Refusal {
-            kind: Kind::Depth,
-            place: place,
-        });
-    }
+    need(range_inside(depth, WATER), Refusal::new(Kind::Depth, place))?;
     let flux = flux_range(first, site, weather, row, depth);
-    if !range_inside(flux, -Row::FLUX, Row::FLUX) {
-        return SegmentAnswer::Stop(Refusal {
-            kind: Kind::Flux,
-            place: place,
-        });
-    }
+    need(
+        range_inside(flux, Row::FLUX),
+        Refusal::new(Kind::Flux, place),
+    )?;
     let gain = gain_range(site, weather, flux, depth);
     let next = next_setup(setup, gain);
-    if !range_inside(next, -SETUP, SETUP) {
-        return SegmentAnswer::Stop(Refusal {
-            kind: Kind::Setup,
-            place: place,
-        });
-    }
-    SegmentAnswer::On(leg_of(flux, weather.cross, next))
+    need(range_inside(next, SETUP), Refusal::new(Kind::Setup, place))?;
+    Ok(leg_of(flux, weather.cross, next))
 }
 
 // What the shore height has beside the last setup, of initial level plus tide and of the deficit at the shore point.

@@ -3,14 +3,14 @@
 #![tactic(auto)]
 
 use ranges::Range;
-use records::{Refusal, Row};
+use records::Row;
 
 mod formulas;
 
 pub use formulas::{march_segment, shore_base};
 
 // What the traverse gives a segment: its length, the sum of its two depths, the sine of the latitude and the friction.
-#[derive(Clone, Copy)]
+#[derive(Clone, Copy, Debug, PartialEq, Eq)]
 pub struct Site {
     pub length: i64,
     pub depths: i64,
@@ -19,7 +19,7 @@ pub struct Site {
 }
 
 // What a step gives it: the seconds, initial level plus tide, and the sums over its two ends of deficit, cross and onshore stress.
-#[derive(Clone, Copy)]
+#[derive(Clone, Copy, Debug, PartialEq, Eq)]
 pub struct Weather {
     pub seconds: i64,
     pub level: i64,
@@ -29,15 +29,8 @@ pub struct Weather {
 }
 
 // What a segment leaves: its new row, and the setup range after it.
-#[derive(Clone, Copy)]
+#[derive(Clone, Copy, Debug, PartialEq, Eq)]
 pub struct Leg {
     pub row: Row,
     pub setup: Range,
-}
-
-// Whether a segment passed checks 10 to 12.
-#[derive(Clone, Copy)]
-pub enum SegmentAnswer {
-    On(Leg),
-    Stop(Refusal),
 }

@@ -12,18 +12,11 @@ use Rattle.records.specs.Shapes.{Traverse}
 use Rattle.listing.specs.Lines.{names_line, refused_line}
 use Rattle.march.specs.Answers.{ToldOpen, opened, not_opened}
 use Rattle.march.specs.Checks.{open_of}
-use Rattle.files.specs.declared.Flushed.{Flushed}
-use Rattle.files.specs.declared.Loaded.{Loaded}
-use Rattle.files.specs.declared.TraverseFile.{TraverseFile}
-use Rattle.files.specs.Filled.{Flushes}
-use Rattle.files.specs.TraverseFile.{LoadsSome}
-use Rattle.hydrograph.specs.declared.Run.{Run}
 use Rattle.hydrograph.specs.declared.Turn.{Turn}
 use Rattle.hydrograph.specs.declared.Turn.TheVariants as turn
 use Rattle.hydrograph.specs.declared.Turned.{Turned}
 use Rattle.hydrograph.specs.Turns.{line_room, said_open, begin_of, LeftTurn, left_turn, printed, turn_left, fresh_run}
-use Rattle.surge.specs.Standing.{went_out}
-use Rattle.surge.specs.Printed.{MarchesSome, begin_on, AfterNames, AfterBegin, Prints, AfterFile, Runs}
+use Rattle.surge.specs.Printed.{begin_on, AfterBegin, Prints}
 use Rattle.surge.proofs.TurnEnds.{written-within}
 
 module _ (t : Traverse) (out : List ℕ) (room : line_room ≤ length out) where
@@ -66,29 +59,3 @@ module _ (t : Traverse) (out : List ℕ) (room : line_room ≤ length out) where
 pub begun-told : (t : Traverse) (out : List ℕ) (x : Turned) (out' : List ℕ) → left_turn x [] [] out' ≡ turn_left (record { said = begin_of t []; numbers = [] }) fresh_run [] [] out 0 → left_turn x [] [] out' ≡ begin_on t out
 unfolding begin_on
 begun-told t out x out' e = e
-
--- by what became of the names line, whose answer is known
-pub after-named : (t : Traverse) (window : List ℕ) (numbers rows : List ℤ) (waits : ℕ) (window' : List ℕ) (numbers' rows' : List ℤ) (out' : List ℕ) (answer known : Flushed) (run : Run) (out : List ℕ) → answer ≡ known
-    → AfterNames t window numbers rows waits window' numbers' rows' out' (went_out known) run out → AfterNames t window numbers rows waits window' numbers' rows' out' (went_out answer) run out
-after-named t window numbers rows waits window' numbers' rows' out' answer known run out e a = subst (λ (r : Flushed). AfterNames t window numbers rows waits window' numbers' rows' out' (went_out r) run out) (sym e) a
-
--- nothing waits, by any name
-pub from-nought : {t : Traverse} {run : Run} {used : ℕ} {window : List ℕ} {numbers rows : List ℤ} {out : List ℕ} {waits : ℕ} {window' : List ℕ} {numbers' rows' : List ℤ} {out' : List ℕ}
-    → used ≡ 0 → MarchesSome t run used window numbers rows out waits window' numbers' rows' out' → MarchesSome t run 0 window numbers rows out waits window' numbers' rows' out'
-from-nought {t} {run} {used} {window} {numbers} {rows} {out} {waits} {window'} {numbers'} {rows'} {out'} e m =
-    subst (λ (k : ℕ). MarchesSome t run k window numbers rows out waits window' numbers' rows' out') e m
-
--- what a run did, from the case of how reading the traverse ended
-pub ran : {window : List ℕ} {points numbers rows : List ℤ} {out : List ℕ} {r : Flushed} {window' : List ℕ} {points' numbers' rows' : List ℤ} {out' : List ℕ}
-    (file : TraverseFile) (window₁ : List ℕ) (rows₁ : List ℤ) (waits : ℕ) → LoadsSome window points file window₁ points' → (x : Loaded) → file.answer ≡ x
-    → AfterFile file points' window₁ numbers rows out waits window' numbers' rows' out' x rows₁ → Flushes r waits → Runs window points numbers rows out r window' points' numbers' rows' out'
-ran {numbers = numbers} {rows = rows} {out = out} {window' = window'} {points' = points'} {numbers' = numbers'} {rows' = rows'} {out' = out'} file window₁ rows₁ waits l x e a f =
-    record {
-      file = file;
-      window₁ = window₁;
-      rows₁ = rows₁;
-      waits = waits;
-      loads = l;
-      after = subst (λ (y : Loaded). AfterFile file points' window₁ numbers rows out waits window' numbers' rows' out' y rows₁) (sym e) a;
-      flushes = f;
-    }

@@ -1,5 +1,6 @@
 -- What a run handed over to be written is the listing of the texts that it read, by the turns (`turns-tell`) and by what reading the traverse came to (`file-tells` of
 -- `files`). Assumes nothing.
+use Rattle.std.specs.Prelude.{Result, Ok, Err}
 use mathlib.Core.Path.{◌≡◌, refl, sym, ap, subst, ◌∙◌}
 use mathlib.Core.Bool.{Bool, true, false}
 use mathlib.Core.List.{List, [], ◌∷◌, ◌++◌, append_assoc, append-nil}
@@ -13,15 +14,13 @@ use Rattle.records.specs.Groups.{wholes, of_row, groups, flat}
 use Rattle.records.specs.Limits.{most_points}
 use Rattle.records.specs.Rows.{fresh_row}
 use Rattle.records.specs.declared.Row.{Row}
-use Rattle.records.specs.Shapes.{Traverse, count, traverse}
+use Rattle.records.specs.Shapes.{Traverse, count}
 use Rattle.records.proofs.GroupLaws.{groups-length}
 use Rattle.records.proofs.GroupLaws.{wholes-times}
 use Rattle.reader.specs.declared.traverse.Known.{Known}
 use Rattle.reader.specs.declared.traverse.TraverseRead.{TraverseRead}
-use Rattle.reader.specs.declared.traverse.Whole.{Whole}
-use Rattle.reader.specs.declared.traverse.Whole.TheVariants as whole-read
 use Rattle.reader.specs.Lines.{Outcome, read, refused, Leaves, leaves}
-use Rattle.reader.specs.Traverse.{held, start, no_head, no_points, rest_at, traverse_read, traverse_left, traverse_by, traverse_of}
+use Rattle.reader.specs.Traverse.{held, start, no_points, rest_at, traverse_read, traverse_left, traverse_by, traverse_of}
 use Rattle.reader.specs.Storm.{record_size, storm_of}
 use Rattle.listing.specs.Lines.{names_line, refused_line, failed_line}
 use Rattle.listing.specs.Put.{written}
@@ -30,9 +29,8 @@ use Rattle.march.specs.Given.{segments}
 use Rattle.march.specs.Checks.{open_of}
 use Rattle.march.specs.March.{fresh_row_at}
 use Rattle.march.specs.Demand3.{fresh_rows}
-use Rattle.files.specs.declared.Loaded.{Loaded}
-use Rattle.files.specs.declared.Loaded.TheVariants as loaded
-use Rattle.files.specs.declared.TraverseFile.{TraverseFile}
+use Rattle.files.specs.declared.Stop.{Stop}
+use Rattle.files.specs.declared.Stop.TheVariants as stop
 use Rattle.files.specs.TraverseFile.{Continues, Tells, HasPoints}
 use Rattle.files.specs.TraverseFile as files
 use Rattle.files.proofs.PointsRead.{loads-has}
@@ -72,10 +70,10 @@ unfolding groups
 all-fresh t zero i = refl
 all-fresh t (suc n) i = one_more (groups (fresh_row_at t) n) i ∙ all-fresh t n i
 
-count-is : (file : TraverseFile) (points : List ℤ) → 2 * file.count ≤ length points → count (traverse_in file points) ≡ file.count
+count-is : (file : TraverseRead) (points : List ℤ) → 2 * file.count ≤ length points → count (traverse_in file points) ≡ file.count
 count-is file points b = ap (λ (k : ℕ). wholes 2 k) (length-take-le (2 * file.count) points b) ∙ wholes-times 2 file.count (omega arith)
 
-rows_are : (file : TraverseFile) (points : List ℤ) → 2 ≤ file.count → 2 * file.count ≤ length points → file.count ≤ 65 → take (rows_in file) no_rows ≡ fresh_rows (traverse_in file points)
+rows_are : (file : TraverseRead) (points : List ℤ) → 2 ≤ file.count → 2 * file.count ≤ length points → file.count ≤ 65 → take (rows_in file) no_rows ≡ fresh_rows (traverse_in file points)
 rows_are file points a b c =
     let t = traverse_in file points in
     let n = count-is file points b in
@@ -98,40 +96,23 @@ behind cut_short first printed listing p = record { rest = p.rest; joined = appe
 
 -- ---- the listing, from what reading the traverse came to
 
--- a traverse that was read is no refusal, and a refusal is that one
-tag : Whole → ℕ
-tag whole-read.Read = 0
-tag (whole-read.Refused refusal) = 1
-
-line_of : Whole → List ℕ
-line_of whole-read.Read = []
-line_of (whole-read.Refused refusal) = refusal_line refusal
-
 -- the listing for a traverse
 abbrev opening : List ℕ → Traverse → List ℕ
 opening storm t = after_opening (open_of most_points t).answer (open_of most_points t).state t (storm_of storm (count t))
 
-module _ (s storm : List ℕ) (points : List ℤ) where
-  numbers : List ℤ
-  numbers = (rest_at s (held start no_points) 0 0).numbers
+-- and for what a call answers that reads a text, and leaves
+abbrev listed : List ℕ → Result TraverseRead Refusal → List ℤ → List ℕ
+listed storm (Ok file) points = opening storm (traverse_in file points)
+listed storm (Err r) points = refusal_line r
 
-  listing-read : (file : TraverseFile) → traverse_left s no_points ≡ leaves (record { answer = whole-read.Read; head = file.head; count = file.count }) points → listing_of s storm ≡ opening storm (traverse_in file points)
-  unfolding listing_of traverse_of traverse_left traverse_read tag
-  listing-read file e = go (rest_at s (held start no_points) 0 0).answer e
-    where
-      go : (x : Outcome Known) → leaves (traverse_read x) (rest_at s (held start no_points) 0 0).numbers ≡ leaves (record { answer = whole-read.Read; head = file.head; count = file.count }) points
-          → after_traverse (traverse_by x (rest_at s (held start no_points) 0 0).numbers) storm ≡ opening storm (traverse_in file points)
-      go (read k at line) p = ap (λ (y : Leaves TraverseRead). opening storm (traverse y.answer.head (take (2 * y.answer.count) y.numbers))) p
-      go (refused r) p = let z : ◌≡◌ {A = ℕ} 1 0 = ap (λ (y : Leaves TraverseRead). tag y.answer.answer) p in absurd (omega arith)
-
-  listing-refused : (r : Refusal) → traverse_left s no_points ≡ leaves (record { answer = whole-read.Refused r; head = no_head; count = 0 }) points → listing_of s storm ≡ refusal_line r
-  unfolding listing_of traverse_of traverse_left traverse_read tag line_of
-  listing-refused r e = go (rest_at s (held start no_points) 0 0).answer e
-    where
-      go : (x : Outcome Known) → leaves (traverse_read x) (rest_at s (held start no_points) 0 0).numbers ≡ leaves (record { answer = whole-read.Refused r; head = no_head; count = 0 }) points
-          → after_traverse (traverse_by x (rest_at s (held start no_points) 0 0).numbers) storm ≡ refusal_line r
-      go (read k at line) p = let z : ◌≡◌ {A = ℕ} 0 1 = ap (λ (y : Leaves TraverseRead). tag y.answer.answer) p in absurd (omega arith)
-      go (refused q) p = ap (λ (y : Leaves TraverseRead). line_of y.answer.answer) p
+listing-left : (s storm : List ℕ) (points : List ℤ) (x : Result TraverseRead Refusal) → traverse_left s no_points ≡ leaves x points → listing_of s storm ≡ listed storm x points
+unfolding listing_of traverse_of traverse_left traverse_read
+listing-left s storm points x e = go (rest_at s (held start no_points) 0 0).answer e
+  where
+    go : (o : Outcome Known) → leaves (traverse_read o) (rest_at s (held start no_points) 0 0).numbers ≡ leaves x points
+        → after_traverse (traverse_by o (rest_at s (held start no_points) 0 0).numbers) storm ≡ listed storm x points
+    go (read k at line) p = ap (λ (y : Leaves (Result TraverseRead Refusal)). listed storm y.answer y.numbers) p
+    go (refused r) p = ap (λ (y : Leaves (Result TraverseRead Refusal)). listed storm y.answer y.numbers) p
 
 -- ---- the last write
 
@@ -158,20 +139,20 @@ module _ (t : Traverse) (window : List ℕ) (numbers rows : List ℤ) (out : Lis
 
   -- the names line was written, and then the turns came
   module _ (m : MarchesSome t (begun_by t out room opened).run 0 window numbers rows (begun_by t out room opened).out waits window' numbers' rows' out') (e : List ℕ)
-      (c : Continues m.marches.standing.last e) where
+      (c : Continues m.marches.standing.window.last e) where
     abbrev last : Memory
-    last = memory m.marches.standing window' numbers' rows' out'
+    last = memory m.marches.standing m.marches.on window' numbers' rows' out'
 
     abbrev handed : List ℕ
     handed = handed_on t m.marches.earlier
 
     abbrev storm : List ℕ
-    storm = text_read t m.marches.earlier (memory m.marches.standing window' numbers' rows' out') ++ e
+    storm = text_read t m.marches.earlier (memory m.marches.standing m.marches.on window' numbers' rows' out') ++ e
 
     told : PrintedOf (how_marched t m.marches.earlier last) (handed ++ take m.marches.standing.used out') (lines storm)
     told =
         subst (λ (l : List ℤ). PrintedOf (how_marched t m.marches.earlier last) (handed ++ take m.marches.standing.used out') (storm_lines t (open_of most_points t).state l (storm_of storm (count t)))) rows-fresh
-        (turns-tell t (memory (begun_at m.opened (begun_by t out room opened).run 0) window numbers rows (begun_by t out room opened).out) (record { place = refl; line = refl; none = refl; waits = omega arith; room = holds }) m.marches.earlier last m.marches.reached e c)
+        (turns-tell t (memory (begun_at m.opened (begun_by t out room opened).run 0) true window numbers rows (begun_by t out room opened).out) (record { place = refl; line = refl; none = refl; waits = omega arith; room = holds }) m.marches.earlier last m.marches.reached e c)
 
     -- behind the names line
     marched : PrintedOf (how_marched t m.marches.earlier last) ((names ++ handed) ++ take waits out') (names_line ++ lines storm)
@@ -203,26 +184,23 @@ module _ (t : Traverse) (window : List ℕ) (numbers rows : List ℤ) (out : Lis
 
 pub run-prints : RunPrints
 run-prints window points numbers rows out r window' points' numbers' rows' out' lent x e₁ e₂ c₁ c₂ =
-    by x.file.answer x.after (file-tells f window points x.file x.window₁ points' x.loads.loads e₁ c₁) (loads-has _ _ _ _ _ _ x.loads.loads) c₂
+    by x.file x.after (file-tells x.loads.opened window points x.file x.window₁ points' x.loads.loads e₁ c₁) (loads-has _ _ _ _ _ _ x.loads.loads) c₂
   where
-    f : Bool
-    f = x.loads.opened
-
     s : List ℕ
     s = files.text_read x.loads.loads.earlier x.loads.loads.at ++ e₁
 
-    by : (k : Loaded) (after : AfterFile x.file points' x.window₁ numbers rows out x.waits window' numbers' rows' out' k x.rows₁) → Tells k x.file s points points' → HasPoints k x.file.count (length points')
-        → let c = came_from x.file points' x.window₁ numbers rows out x.waits window' numbers' rows' out' k x.rows₁ after in
+    by : (k : Result TraverseRead Stop) (after : AfterFile points' x.window₁ numbers rows out x.waits window' numbers' rows' out' k x.rows₁) → Tells k s points points' → HasPoints k (length points')
+        → let c = came_from points' x.window₁ numbers rows out x.waits window' numbers' rows' out' k x.rows₁ after in
         Continues c.last e₂ → PrintedOf c.how (c.handed ++ take x.waits out') (listing_of s (c.text ++ e₂))
-    by loaded.Failed after told has c = failed-alone out x.waits out' _ after.0.waits-are after.0.out-is
-    by (loaded.Refused refusal) after told has c =
+    by (Err stop.Failed) after told has c = failed-alone out x.waits out' _ after.0.waits-are after.0.out-is
+    by (Err (stop.Refused refusal)) after told has c =
         put_alone (refusal_line refusal) out x.waits out' after.0.waits-are after.0.out-is
-        ∙ sym (listing-refused s e₂ points' refusal (ap (traverse_left s) (sym lent.points-fresh) ∙ told))
-    by loaded.Read after told has c =
-        let t = traverse_in x.file points' in
-        let n = count-is x.file points' has.1 in
-        let came = came_from x.file points' x.window₁ numbers rows out x.waits window' numbers' rows' out' loaded.Read x.rows₁ after in
-        subst (PrintedOf came.how (came.handed ++ take x.waits out')) (sym (listing-read s (came.text ++ e₂) points' x.file (ap (traverse_left s) (sym lent.points-fresh) ∙ told)))
-        (by-begin t x.window₁ numbers (take (rows_in x.file) rows) out lent.out-holds x.waits window' numbers' x.rows₁ out'
-        (ap (take (rows_in x.file)) lent.rows-fresh ∙ rows_are x.file points' has.0 has.1 has.2) (omega (arith, lent.record-holds, n, has.2))
+        ∙ sym (listing-left s e₂ points' (Err refusal) (ap (traverse_left s) (sym lent.points-fresh) ∙ told))
+    by (Ok file) after told has c =
+        let t = traverse_in file points' in
+        let n = count-is file points' has.1 in
+        let came = came_from points' x.window₁ numbers rows out x.waits window' numbers' rows' out' (Ok file) x.rows₁ after in
+        subst (PrintedOf came.how (came.handed ++ take x.waits out')) (sym (listing-left s (came.text ++ e₂) points' (Ok file) (ap (traverse_left s) (sym lent.points-fresh) ∙ told)))
+        (by-begin t x.window₁ numbers (take (rows_in file) rows) out lent.out-holds x.waits window' numbers' x.rows₁ out'
+        (ap (take (rows_in file)) lent.rows-fresh ∙ rows_are file points' has.0 has.1 has.2) (omega (arith, lent.record-holds, n, has.2))
         (begin_on t out) (begin-is t out lent.out-holds) after.0.wrote after.0.after e₂ c)

@@ -11,14 +11,9 @@ use lib.Seq.{length-take-le}
 use lib.IntN.{ℤ}
 use borrow.Author.Tests.{leb-true, leb-false}
 use Rattle.records.specs.Shapes.{Traverse, count}
-use Rattle.listing.specs.declared.Put.TheVariants.{Next}
 use Rattle.listing.specs.Lines.{failed_line}
-use Rattle.listing.specs.Put.{after_put, put_of, written}
-use Rattle.listing.proofs.Answer.{next-told}
+use Rattle.listing.specs.Put.{written}
 use Rattle.reader.specs.Storm.{record_size, longest_record}
-use Rattle.files.specs.declared.Filled.{Filled}
-use Rattle.files.specs.declared.Filled.TheVariants as filled
-use Rattle.files.specs.Filled.{Refilled}
 use Rattle.files.proofs.Asks.{holds_not}
 use Rattle.hydrograph.specs.declared.Turn.{Turn}
 use Rattle.hydrograph.specs.declared.Turn.TheVariants as turn
@@ -27,12 +22,9 @@ use Rattle.hydrograph.specs.declared.Turned.{Turned}
 use Rattle.hydrograph.specs.Turns.{Said, more, reads, says, ends, quiet, Heard, turn_heard, line_room, LeftTurn, left_turn, printed, turn_left}
 use Rattle.hydrograph.proofs.RecordRead.{turn-seen}
 use Rattle.hydrograph.proofs.Tells.{Advances, turn-advances}
+use Rattle.std.specs.declared.ops.ControlFlow.{ControlFlow}
 use Rattle.surge.specs.declared.Standing.{Standing}
-use Rattle.surge.specs.Standing.{PutsAt, Stands, standing_with, AfterRefill, Memory, turn_on, ReadFrom, ReadBy, Moves, Moved}
-
--- a line that was put
-pub puts-next : (line : List ℕ) (used : ℕ) (out : List ℕ) (k : ℕ) (out' : List ℕ) → after_put (Next k) out' ≡ put_of line used out → PutsAt line used out k out'
-puts-next line used out k out' e = let h = next-told line used out k out' e in record { waits-are = h.place; within = omega (arith, h.within, h.long); out-is = h.buffer }
+use Rattle.surge.specs.Standing.{Stands, standing_with, left_by, goes_on, Memory, memory, turn_on, ReadBy, Moves, AfterTurn}
 
 -- ---- what is said, printed from a place of a window of so many bytes
 
@@ -80,57 +72,50 @@ module _ (size used : ℕ) (last : Bool) (run : Run) (numbers rows : List ℤ) (
 -- of what `storm_turn` promises
 module _ (t : Traverse) (a : Memory) (x : Turned) (numbers' rows' : List ℤ) (out' : List ℕ) where
   abbrev pub Told : Type 0
-  Told = left_turn x numbers' rows' out' ≡ turn_left (turn_heard t (take a.standing.have a.window) a.standing.last a.standing.run.cursor.at a.standing.run.cursor.line a.standing.run.state a.rows a.numbers) a.standing.run a.numbers a.rows a.out a.standing.used
+  Told = left_turn x numbers' rows' out' ≡ turn_left (turn_heard t (take a.standing.window.have a.window) a.standing.window.last a.standing.run.cursor.at a.standing.run.cursor.line a.standing.run.state a.rows a.numbers) a.standing.run a.numbers a.rows a.out a.standing.used
 
   pub turn_is : Told → left_turn x numbers' rows' out' ≡ turn_on t a
   unfolding turn_on
   turn_is e = e
 
-  pub turn-stays : a.standing.have ≤ length a.window → a.standing.run.cursor.at ≤ a.standing.have → a.standing.used ≤ length a.out → line_room ≤ length a.out
+  pub turn-stays : a.standing.window.have ≤ length a.window → a.standing.run.cursor.at ≤ a.standing.window.have → a.standing.used ≤ length a.out → line_room ≤ length a.out
       → record_size (count t) ≤ length a.numbers → length out' ≡ length a.out → Told
-      → (x.run.cursor.at ≤ a.standing.have) × Placed a.standing.have (length a.out) x.run.cursor.at a.standing.used x.turn
+      → (x.run.cursor.at ≤ a.standing.window.have) × Placed a.standing.window.have (length a.out) x.run.cursor.at a.standing.used x.turn
   turn-stays f h u r n k e =
       let s = a.standing in
-      let w = take s.have a.window in
-      let long = length-take-le s.have a.window f in
-      let m = subst (Advances (length w) s.last s.run.cursor.at s.run.cursor.line) (sym (turn-seen t w s.last s.run.cursor.at s.run.cursor.line s.run.state a.rows a.numbers n)) (turn-advances w s.last t s.run.cursor.at s.run.cursor.line s.run.state a.rows) in
+      let w = take s.window.have a.window in
+      let long = length-take-le s.window.have a.window f in
+      let m = subst (Advances (length w) s.window.last s.run.cursor.at s.run.cursor.line) (sym (turn-seen t w s.window.last s.run.cursor.at s.run.cursor.line s.run.state a.rows a.numbers n)) (turn-advances w s.window.last t s.run.cursor.at s.run.cursor.line s.run.state a.rows) in
       let y = subst (Ends (length w) (length a.out) s.used) (sym e)
-      (left-ends (length w) s.used s.last s.run a.numbers a.rows a.out (omega arith) u _ m r (ap (λ (l : LeftTurn). length l.out) (sym e) ∙ k)) in
+      (left-ends (length w) s.used s.window.last s.run a.numbers a.rows a.out (omega arith) u _ m r (ap (λ (l : LeftTurn). length l.out) (sym e) ∙ k)) in
       subst (λ (n : ℕ). (x.run.cursor.at ≤ n) × Placed n (length a.out) x.run.cursor.at s.used x.turn) long (y.cursor, y.place)
 
-  -- what was done, from the case of the answer
-  pub moved : Told → (k : Turn) → x.turn ≡ k → (b : Memory) → b.numbers ≡ numbers' → b.rows ≡ rows' → Moves k (left_turn x numbers' rows' out') a b → Moved t a b
-  moved e k f b n r m =
+  -- how the program stands, and what was done, from the case of the answer
+  pub after : Told → (k : Turn) → x.turn ≡ k → (flow : ControlFlow ℕ Standing) (window out : List ℕ) → Stands (left_by flow a.standing x.run) (length window) (length out)
+      → Moves k (left_turn x numbers' rows' out') a (memory (left_by flow a.standing x.run) (goes_on flow) window numbers' rows' out) → AfterTurn t a flow window numbers' rows' out
+  after e k f flow window out s m =
       record {
-        record-left = n ∙ ap (λ (l : LeftTurn). l.numbers) (turn_is e);
-        rows_left = r ∙ ap (λ (l : LeftTurn). l.rows) (turn_is e);
-        moves = subst (λ (l : LeftTurn). Moves l.turn l a b) (turn_is e) (subst (λ (z : Turn). Moves z (left_turn x numbers' rows' out') a b) (sym f) m);
+        stands = subst (λ (l : LeftTurn). Stands (left_by flow a.standing l.run) (length window) (length out)) (turn_is e) s;
+        moved = record {
+          record-left = ap (λ (l : LeftTurn). l.numbers) (turn_is e);
+          rows_left = ap (λ (l : LeftTurn). l.rows) (turn_is e);
+          moves = subst (λ (l : LeftTurn). Moves l.turn l a (memory (left_by flow a.standing l.run) (goes_on flow) window numbers' rows' out)) (turn_is e)
+              (subst (λ (z : Turn). Moves z (left_turn x numbers' rows' out') a (memory (left_by flow a.standing x.run) (goes_on flow) window numbers' rows' out)) (sym f) m);
+        };
       }
 
 -- ---- what is done with the answer
 
--- the same with whether it goes on said by the standing itself
-pub on_same : (x : Standing) (run : Run) (used : ℕ) (on : Bool) (y : Standing) → y ≡ standing_with x run used on → y ≡ standing_with x run used y.on
-on_same x run used on y e = e ∙ ap (standing_with x run used) (sym (ap (λ (z : Standing). z.on) e))
-
--- what was read, from the refill's answer
-pub read_by : (answer : Filled) (run : Run) (x y : Standing) (a b out out' : List ℕ) → Refilled answer a b run.cursor.at x.have → AfterRefill answer run x y out out' → ReadFrom run x y a b out out'
-read_by (filled.Holds n last) run x y a b out out' h k = subst (λ (z : Standing). ReadFrom run x z a b out out') (sym k.0) (record { same = refl; waits = refl; window = h }, k.1)
-read_by filled.Failed run x y a b out out' h k =
-    subst (λ (on : Bool). ReadBy on run x y a b out out') (sym (ap (λ (z : Standing). z.on) k.0)) (record { same = k.0; window = h; line = k.1 })
-
-pub stands-with : (x : Standing) (run : Run) (k : ℕ) (on : Bool) (y : Standing) (window room : ℕ) → y ≡ standing_with x run k on → run.cursor.at ≤ x.have → x.have ≤ window → k ≤ room → Stands y window room
-stands-with x run k on y window room e p h w = subst (λ (z : Standing). Stands z window room) (sym e) (record { place = p; held = h; waits = w })
+pub stands-with : (x : Standing) (run : Run) (k : ℕ) (y : Standing) (window room : ℕ) → y ≡ standing_with x run k → run.cursor.at ≤ x.window.have → x.window.have ≤ window → k ≤ room → Stands y window room
+stands-with x run k y window room e p h w = subst (λ (z : Standing). Stands z window room) (sym e) (record { place = p; held = h; waits = w })
 
 -- after more was read, or after a read that failed, for whose line there was room
-pub stands_read : (run : Run) (x y : Standing) (a b out out' : List ℕ) → ReadFrom run x y a b out out' → run.cursor.at ≤ x.have → x.have ≤ length b → x.used + line_room ≤ length out'
+pub stands_read : (on : Bool) (run : Run) (x y : Standing) (a b out out' : List ℕ) → ReadBy on run x y a b out out' → run.cursor.at ≤ x.window.have → x.window.have ≤ length b → x.used + line_room ≤ length out'
     → Stands y (length b) (length out')
-stands_read run x y a b out out' r p h w = go y.on r
-  where
-    go : (on : Bool) → ReadBy on run x y a b out out' → Stands y (length b) (length out')
-    go true f = record {
-      place = subst (λ (z : Run). z.cursor.at ≤ y.have) (sym f.0.same) (omega arith);
+stands_read true run x y a b out out' f p h w =
+    record {
+      place = subst (λ (z : Run). z.cursor.at ≤ y.window.have) (sym f.0.same) (omega arith);
       held = f.0.window.within;
       waits = omega (arith, f.0.waits);
     }
-    go false f = stands-with x run (x.used + length failed_line) false y (length b) (length out') f.same p h (omega arith)
+stands_read false run x y a b out out' f p h w = stands-with x run (x.used + length failed_line) y (length b) (length out') f.same p h (omega arith)

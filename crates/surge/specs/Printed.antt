@@ -1,13 +1,13 @@
 -- The program turn after turn, and what it prints. No contract says what the system reads or writes, so what was read is whatever the refills brought
 -- into the window, and what is printed is what was handed over to `flush`. Everything else of a run is said here: the turns one after another
 -- (`Reached`), the storm (`Marches`), a traverse that was read (`Prints`), and the run (`Runs`, the promise of `surge::run`). Assumes nothing.
-use Rattle.std.specs.Prelude.{◌≡◌, Bool, true, false, cond, List, [], ◌∷◌, ◌++◌, ℕ, ◌-◌, ◌*◌, length, take, drop, not, ℤ}
+use Rattle.std.specs.Prelude.{◌≡◌, Bool, true, false, cond, List, [], ◌∷◌, ◌++◌, ℕ, ◌-◌, ◌*◌, length, take, drop, not, ℤ, Result, Ok, Err}
 use Rattle.records.specs.Shapes.{Traverse, traverse}
 use Rattle.listing.specs.Lines.{failed_line}
-use Rattle.files.specs.declared.Flushed.{Flushed}
-use Rattle.files.specs.declared.Loaded.{Loaded}
-use Rattle.files.specs.declared.Loaded.TheVariants as loaded
-use Rattle.files.specs.declared.TraverseFile.{TraverseFile}
+use Rattle.reader.specs.declared.traverse.TraverseRead.{TraverseRead}
+use Rattle.files.specs.declared.Failed.{Failed}
+use Rattle.files.specs.declared.Stop.{Stop}
+use Rattle.files.specs.declared.Stop.TheVariants as stop
 use Rattle.files.specs.Chain.{Chain, most_turns}
 use Rattle.files.specs.Filled.{read_behind, Flushes}
 use Rattle.files.specs.TraverseFile.{LoadsSome}
@@ -23,7 +23,7 @@ use Rattle.surge.specs.Standing.{PutsAt, Memory, memory, turn_on, Moved}
 
 -- a turn, made while the program goes on
 abbrev pub TurnMade : Traverse → Memory → Memory → Type 0
-TurnMade t a b = (a.standing.on ≡ true) × Moved t a b
+TurnMade t a b = (a.on ≡ true) × Moved t a b
 
 -- from a to b by turns; the memories before them, the newest first
 abbrev pub Reached : Traverse → Memory → List Memory → Memory → Type 0
@@ -31,7 +31,7 @@ Reached t = Chain (TurnMade t)
 
 -- the bytes that a turn read, and the text read on the way
 abbrev pub read_by : Turn → LeftTurn → Memory → Memory → List ℕ
-read_by turn.More l a b = cond b.standing.on (read_behind (a.standing.have - l.run.cursor.at) b.standing.have b.window) []
+read_by turn.More l a b = cond b.on (read_behind (a.standing.window.have - l.run.cursor.at) b.standing.window.have b.window) []
 read_by (turn.Line k) l a b = []
 read_by (turn.End k) l a b = []
 read_by turn.Full l a b = []
@@ -56,14 +56,15 @@ handed_on t (w ∷ earlier) = handed_on t earlier ++ handed_by (turn_on t w).tur
 
 -- a file that could not be opened has ended before a byte was read
 abbrev pub begun_at : Bool → Run → ℕ → Standing
-begun_at opened run used = record { run = run; have = 0; last = not opened; used = used; on = true }
+begun_at opened run used = record { run = run; window = record { have = 0; last = not opened }; used = used }
 
--- `waits` bytes wait at the end of the turns, which come to their end, or are 2⁵⁶
+-- `waits` bytes wait at the end of the turns, which come to their end, or are 2⁵⁶, and the program would go on
 pub record Marches (opened : Bool) (t : Traverse) (run : Run) (used : ℕ) (window : List ℕ) (numbers rows : List ℤ) (out : List ℕ) (waits : ℕ) (window' : List ℕ) (numbers' rows' : List ℤ) (out' : List ℕ) : Type 0 where
   pub earlier : List Memory
   pub standing : Standing
-  pub reached : Reached t (memory (begun_at opened run used) window numbers rows out) earlier (memory standing window' numbers' rows' out')
-  pub ended : standing.on ≡ true → length earlier ≡ most_turns
+  pub on : Bool
+  pub reached : Reached t (memory (begun_at opened run used) true window numbers rows out) earlier (memory standing on window' numbers' rows' out')
+  pub ended : on ≡ true → length earlier ≡ most_turns
   pub waits-are : waits ≡ standing.used
 
 -- the same of a file by its name: whether it opens is the system's
@@ -102,25 +103,25 @@ pub record Prints (t : Traverse) (window : List ℕ) (numbers rows : List ℤ) (
 -- ---- the run
 
 -- the traverse of a file that was read, its rows, and these put back before the rows that it has not
-abbrev pub traverse_in : TraverseFile → List ℤ → Traverse
+abbrev pub traverse_in : TraverseRead → List ℤ → Traverse
 traverse_in file points = traverse file.head (take (2 * file.count) points)
 
-abbrev pub rows_in : TraverseFile → ℕ
+abbrev pub rows_in : TraverseRead → ℕ
 rows_in file = 3 * (file.count - 1)
 
 -- what waits at the end, by how reading the traverse ended
-module _ (file : TraverseFile) (points : List ℤ) (window : List ℕ) (numbers rows : List ℤ) (out : List ℕ) (waits : ℕ) (window' : List ℕ) (numbers' rows' : List ℤ) (out' : List ℕ) where
-  abbrev pub AfterFile : Loaded → List ℤ → Type 0
-  AfterFile loaded.Failed rows₁ = PutsAt failed_line 0 out waits out' × Untouched window numbers rows window' numbers' rows'
-  AfterFile (loaded.Refused refusal) rows₁ = PutsAt (refusal_line refusal) 0 out waits out' × Untouched window numbers rows window' numbers' rows'
-  AfterFile loaded.Read rows₁ = Prints (traverse_in file points) window numbers (take (rows_in file) rows) out waits window' numbers' rows₁ out' × (rows' ≡ rows₁ ++ drop (rows_in file) rows)
+module _ (points : List ℤ) (window : List ℕ) (numbers rows : List ℤ) (out : List ℕ) (waits : ℕ) (window' : List ℕ) (numbers' rows' : List ℤ) (out' : List ℕ) where
+  abbrev pub AfterFile : Result TraverseRead Stop → List ℤ → Type 0
+  AfterFile (Err stop.Failed) rows₁ = PutsAt failed_line 0 out waits out' × Untouched window numbers rows window' numbers' rows'
+  AfterFile (Err (stop.Refused refusal)) rows₁ = PutsAt (refusal_line refusal) 0 out waits out' × Untouched window numbers rows window' numbers' rows'
+  AfterFile (Ok file) rows₁ = Prints (traverse_in file points) window numbers (take (rows_in file) rows) out waits window' numbers' rows₁ out' × (rows' ≡ rows₁ ++ drop (rows_in file) rows)
 
 -- the answer r is that of writing what waits at the end
-pub record Runs (window : List ℕ) (points numbers rows : List ℤ) (out : List ℕ) (r : Flushed) (window' : List ℕ) (points' numbers' rows' : List ℤ) (out' : List ℕ) : Type 0 where
-  pub file : TraverseFile
+pub record Runs (window : List ℕ) (points numbers rows : List ℤ) (out : List ℕ) (r : Result ℕ Failed) (window' : List ℕ) (points' numbers' rows' : List ℤ) (out' : List ℕ) : Type 0 where
+  pub file : Result TraverseRead Stop
   pub window₁ : List ℕ
   pub rows₁ : List ℤ
   pub waits : ℕ
   pub loads : LoadsSome window points file window₁ points'
-  pub after : AfterFile file points' window₁ numbers rows out waits window' numbers' rows' out' file.answer rows₁
+  pub after : AfterFile points' window₁ numbers rows out waits window' numbers' rows' out' file rows₁
   pub flushes : Flushes r waits

@@ -47,4 +47,4 @@ pub open-place-whole : OpenPlaceWhole
 open-place-whole head points number place h e = whole-place place (below (open-place most_points (traverse head points) number place e) (count_at points h))
 
 pub take-place-whole : TakePlaceWhole
-take-place-whole call points storm rows setup number place h e = whole-place place (below (take-place (given most_points call points storm rows setup) number place e) (count_at points h))
+take-place-whole t r st rows setup number place h e = whole-place place (below (take-place (given most_points t r st rows setup) number place e) (count_at t.points h))

@@ -6,9 +6,8 @@ use Rattle.records.specs.declared.Head.{Head}
 use Rattle.records.specs.declared.Row.{Row}
 use Rattle.records.specs.Groups.{row_count}
 use Rattle.records.specs.Limits.{most_points}
-use Rattle.records.specs.Shapes.{traverse}
+use Rattle.records.specs.Shapes.{Traverse, traverse, Record}
 use Rattle.march.specs.declared.State.{State}
-use Rattle.march.specs.declared.Call.{Call}
 use Rattle.march.specs.Answers.{refused, not_opened}
 use Rattle.march.specs.Checks.{open_of}
 use Rattle.lent.specs.Numbers.{state_of, state_numbers, place_number}
@@ -34,4 +33,4 @@ abbrev pub OpenPlaceWhole : Type 0
 OpenPlaceWhole = (head : Head) (points : List ℤ) (number place : ℕ) → Fitting points → (open_of most_points (traverse head points)).answer ≡ not_opened number place → place_number place ≡ pos place
 
 abbrev pub TakePlaceWhole : Type 0
-TakePlaceWhole = (call : Call) (points storm rows setup : List ℤ) (number place : ℕ) → Fitting points → (march_left call points storm rows setup).answer ≡ refused number place → place_number place ≡ pos place
+TakePlaceWhole = (t : Traverse) (r : Record) (st : State) (rows setup : List ℤ) (number place : ℕ) → Fitting t.points → (march_left t r st rows setup).answer ≡ refused number place → place_number place ≡ pos place

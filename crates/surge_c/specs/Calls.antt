@@ -5,8 +5,8 @@ use Rattle.std.specs.Prelude.{◌≡◌, cond, List, ℕ, length, ℤ, pos}
 use Rattle.records.specs.declared.Row.{Row}
 use Rattle.march.specs.Answers.{Told, accepted, refused}
 use Rattle.march.specs.Take as march
-use Rattle.lent.specs.Numbers.{state_numbers, answer_numbers, refused_answer, buffers_ok, wrong_buffer}
-use Rattle.lent.specs.Calls.{call_of, march_left}
+use Rattle.lent.specs.Numbers.{state_of, state_numbers, answer_numbers, refused_answer, buffers_ok, wrong_buffer}
+use Rattle.lent.specs.Calls.{traverse_given, storm_given, march_left}
 use Rattle.surge_c.specs.Rows.{numbers_from, rows_from}
 
 pub record LeftRows : Type 0 where
@@ -30,7 +30,7 @@ take_with x state rows setup answer =
 
 unfoldable pub take_call : ℤ → ℤ → ℤ → List ℤ → ℤ → ℤ → List ℤ → List ℤ → List Row → List ℤ → List ℤ → LeftRows
 take_call latitude friction initial points seconds tide storm state rows setup answer =
-    take_with (march_left (call_of latitude friction initial seconds tide state) points storm (numbers_from rows) setup) state rows setup answer
+    take_with (march_left (traverse_given latitude friction initial points) (storm_given seconds tide storm) (state_of state) (numbers_from rows) setup) state rows setup answer
 
 -- the promise of the call, on these and with this left
 abbrev pub Takes : ℤ → ℤ → ℤ → List ℤ → ℤ → ℤ → List ℤ → List ℤ → List Row → List ℤ → List ℤ → LeftRows → Type 0

@@ -1,6 +1,7 @@
 -- Rows as plain numbers, three to a row, and back; and how many of them a call moves.
-use Rattle.std.specs.Prelude.{List, [], ◌∷◌, ℕ, zero, suc, ◌+◌, ◌-◌, ◌*◌, drop, get_or, ℤ, pos}
+use Rattle.std.specs.Prelude.{List, [], ◌∷◌, ℕ, zero, suc, ◌-◌, drop, ℤ}
 use Rattle.records.specs.declared.Row.{Row}
+use Rattle.records.specs.Groups.{row_at}
 
 abbrev pub numbers_from : List Row → List ℤ
 numbers_from [] = []
@@ -18,10 +19,6 @@ rows_from (a ∷ b ∷ c ∷ l) = record { low = a; high = b; cross = c } ∷ ro
 -- the lesser of n and 64
 abbrev pub moved_rows : ℕ → ℕ
 moved_rows n = n - (n - 64)
-
--- row i of the numbers l
-abbrev pub row_at : List ℤ → ℕ → Row
-row_at l i = record { low = get_or l (3 * i) (pos 0); high = get_or l (3 * i + 1) (pos 0); cross = get_or l (3 * i + 2) (pos 0) }
 
 -- the numbers of the first i rows in place of those that lay below
 abbrev pub laid : ℕ → List Row → List ℤ → List ℤ

@@ -7,10 +7,11 @@ ghost use Rattle.lent.specs.Calls.{left_open, Opens};
 ghost use Rattle.lent.specs.Decks.{left_text, ReadsDeck};
 ghost use Rattle.lent.specs.Making.{left_make, Makes};
 ghost use Rattle.lent.specs.Texts.{left_traverse, ReadsTraverse, left_record, ReadsRecord};
-ghost use Rattle.surge_c.specs.Rows.{laid, backed, moved_rows};
+ghost use Rattle.surge_c.specs.Rows.{laid, backed};
 ghost use Rattle.surge_c.specs.Calls.{left_rows, Takes};
 
 use records::Row;
+use records::groups::{Group, group_at, store_group};
 use records::limits::SEGMENTS_MOST;
 
 // Opens a traverse. `points` has 2 numbers a point. The number of the refusal is returned, 0 where the traverse is accepted.
@@ -95,41 +96,26 @@ pub extern "C" fn fennhop_read_deck(
     lent::read_deck(latitude, friction, initial, deck, text, answer)
 }
 
-// How many of n rows are moved: no more can be accepted.
-fn moved_rows(n: usize) -> usize
-    ensures { result ≡ moved_rows n }
-{
-    if n <= SEGMENTS_MOST { n } else { SEGMENTS_MOST }
-}
+// How many numbers the rows are that may be lent: no more can be accepted.
+const MOVED: usize = Row::NUMBERS * SEGMENTS_MOST;
 
-// The numbers of the first m rows, three to a row, into the first of `numbers`.
-fn lay_rows(m: usize, rows: &[Row], numbers: &mut [i64])
-    requires rows_in { m ≤ length rows.now }
-    requires room { 3 * m ≤ length numbers.old }
-    ensures { numbers.new ≡ laid m rows.now numbers.old }
+// The numbers of rows, three to a row, into the first of `numbers`.
+fn lay_rows(rows: &[Row], numbers: &mut [i64])
+    requires { 3 * length rows.now ≤ length numbers.old }
+    ensures { numbers.new ≡ laid (length rows.now) rows.now numbers.old }
 {
-    for i in 0..m {
-        let row = rows[i];
-        let at = 3 * i;
-        numbers[at] = row.low;
-        numbers[at + 1] = row.high;
-        numbers[at + 2] = row.cross;
+    for (i, row) in rows.iter().enumerate() {
+        store_group(numbers, i, *row);
     }
 }
 
-// The first m rows anew, of the first of `numbers`.
-fn put_back(m: usize, numbers: &[i64], rows: &mut [Row])
-    requires rows_in { m ≤ length rows.old }
-    requires room { 3 * m ≤ length numbers.now }
-    ensures { rows.new ≡ backed m numbers.now rows.old }
+// The rows anew, of the first of `numbers`.
+fn put_back(numbers: &[i64], rows: &mut [Row])
+    requires { 3 * length rows.old ≤ length numbers.now }
+    ensures { rows.new ≡ backed (length rows.old) numbers.now rows.old }
 {
-    for i in 0..m {
-        let at = 3 * i;
-        rows[i] = Row {
-            low: numbers[at],
-            high: numbers[at + 1],
-            cross: numbers[at + 2],
-        };
+    for (i, row) in rows.iter_mut().enumerate() {
+        *row = group_at(numbers, i);
     }
 }
 
@@ -152,9 +138,9 @@ pub extern "C" fn fennhop_take_record(
     ensures { Takes latitude friction initial points.now seconds tide storm.now state.old rows.old setup.old answer.old (left_rows result state.new rows.new setup.new answer.new) }
 {
     let n = rows.len();
-    let m = moved_rows(n);
-    let mut numbers = [0; 192];
-    lay_rows(m, rows, &mut numbers);
+    let m = n.min(SEGMENTS_MOST);
+    let mut numbers = [0; MOVED];
+    lay_rows(&rows[..m], &mut numbers);
     let number = lent::take_numbers(
         latitude,
         friction,
@@ -169,10 +155,9 @@ pub extern "C" fn fennhop_take_record(
         setup,
         answer,
     );
-    let accepted = number == 0;
     // a refused call writes no row
-    if accepted {
-        put_back(m, &numbers, rows);
+    if number == 0 {
+        put_back(&numbers, &mut rows[..m]);
     }
     number
 }

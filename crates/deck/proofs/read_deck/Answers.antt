@@ -1,26 +1,40 @@
 -- `read_deck` meets its contract. Assumes nothing.
-use Rattle.std.proofs.Common.{rules, sym, ◌∙◌}
-use Rattle.deck.specs.Cards.{deck_of}
-use Rattle.deck.specs.Deck.{convert_of}
-use Rattle.deck.proofs.CallLaws.{converts-refused, converts-unequal, converts-equal}
+use Rattle.std.proofs.Common.{Err, ◌≡◌, ◌∙◌, sym, arith, not, eqb}
+use borrow.Author.Tests.{eqb-true, eqb-false, not-false}
+use Rattle.records.proofs.CheckOrderLaws.{need-passed}
+use Rattle.deck.proofs.CallLaws.{failed, values-passed, byte-passed, converts-valued, converts-empty, converts-refused, converts-unequal, converts-equal}
 use Rattle.deck.proofs.read_deck.Goals as goal
 
-pub returns-then-not-head_ok : goal.returns-then-not-head_ok
-unfolding convert_of
-returns-then-not-head_ok c = search rules
+pub returns-in_err-need : goal.returns-in_err-need
+returns-in_err-need c =
+    let e : c.from_residual.result ≡ Err c.in_err-need.field-0.0 = grind arith in
+    let f = failed c.head_ok.result c.in_err-need.ensures in
+    rw (e, f.1, c.new.ensures) (converts-valued _ _ _ (sym c.head_ok.ensures ∙ f.0))
 
-pub returns-then-deck-eq0 : goal.returns-then-deck-eq0
-unfolding convert_of deck_of
-returns-then-deck-eq0 c = search rules
+pub returns-in_err-need-2 : goal.returns-in_err-need-2
+returns-in_err-need-2 c =
+    let e : c.from_residual-in_err-need-2.result ≡ Err c.in_err-need-2.field-0.0 = grind arith in
+    let f = failed (not c.is_empty.result) c.in_err-need-2.ensures in
+    rw (e, f.1, c.new-2.ensures)
+    (converts-empty _ _ _ (values-passed _ _ c.head_ok.ensures c.in_ok-need.ensures) (eqb-true _ _ (sym c.is_empty.ensures ∙ not-false _ f.0)))
 
-pub returns-then-distances-depths : goal.returns-then-distances-depths
-returns-then-distances-depths c =
-    rw c.refused-then-distances-depths.ensures
-    (converts-unequal _ _ _ (sym c.head_ok.ensures ∙ c.if-not-head_ok.false) c.if-deck-eq0.false _ _ c.in-Read.ensures c.if-distances-depths.true)
+pub returns-in_err-counts : goal.returns-in_err-counts
+returns-in_err-counts c =
+    let e : c.from_residual-in_err-counts.result ≡ Err c.in_err-counts.field-0.0 = grind arith in
+    rw e
+    (converts-refused _ _ _ (values-passed _ _ c.head_ok.ensures c.in_ok-need.ensures) (byte-passed _ _ c.is_empty.ensures c.in_ok-need-2.ensures)
+    _ c.in_err-counts.ensures)
 
-pub returns-in-Refused : goal.returns-in-Refused
-returns-in-Refused c = converts-refused _ _ _ (sym c.head_ok.ensures ∙ c.if-not-head_ok.false) c.if-deck-eq0.false _ c.in-Refused.ensures
+pub returns-in_err-need-3 : goal.returns-in_err-need-3
+returns-in_err-need-3 c =
+    let e : c.from_residual-in_err-need-3.result ≡ Err c.in_err-need-3.field-0.0 = grind arith in
+    let f = failed (eqb c.in_ok-counts.counts.distances c.in_ok-counts.counts.depths) c.in_err-need-3.ensures in
+    rw (e, f.1, c.new-3.ensures)
+    (converts-unequal _ _ _ (values-passed _ _ c.head_ok.ensures c.in_ok-need.ensures) (byte-passed _ _ c.is_empty.ensures c.in_ok-need-2.ensures)
+    _ c.in_ok-counts.ensures (eqb-false _ _ f.0))
 
-pub returns-else-distances-depths : goal.returns-else-distances-depths
-returns-else-distances-depths c =
-    converts-equal _ _ _ (sym c.head_ok.ensures ∙ c.if-not-head_ok.false) c.if-deck-eq0.false _ _ c.in-Read.ensures c.if-distances-depths.false c.put_text.ensures
+pub returns : goal.returns
+returns c =
+    let f = need-passed (eqb c.in_ok-counts.counts.distances c.in_ok-counts.counts.depths) c.new-3.result (sym c.in_ok-need-3.ensures) in
+    converts-equal _ _ _ (values-passed _ _ c.head_ok.ensures c.in_ok-need.ensures) (byte-passed _ _ c.is_empty.ensures c.in_ok-need-2.ensures)
+    _ c.in_ok-counts.ensures (eqb-true _ _ f) c.put_text.ensures

@@ -1,73 +1,68 @@
 -- `load_traverse` meets its contract. Assumes nothing.
-use Rattle.std.proofs.Common.{◌≡◌, Bool, not, List, ℕ, length, take, ℤ, refl, sym, ap, ◌∙◌, subst, arith, rules}
+use Rattle.std.proofs.Common.{Ok, Err, Result, ◌≡◌, ◌-◌, Bool, not, List, ℕ, length, take, ℤ, refl, sym, ap, ◌∙◌, subst, arith}
 use lib.Seq.{length-take-le}
-use Rattle.reader.specs.declared.traverse.TraverseStep.{TraverseStep}
+use Rattle.records.specs.declared.Refusal.{Refusal}
+use Rattle.reader.specs.declared.traverse.Known.{Known}
+use Rattle.reader.specs.declared.traverse.Progress.{Progress}
 use Rattle.reader.specs.Lines.{Leaves}
 use Rattle.reader.specs.Traverse.{held, start}
-use Rattle.reader.proofs.Ends.{Stands as Step-stands, traverse-stands}
-use Rattle.files.specs.declared.Filled.TheVariants.{Holds}
-use Rattle.files.specs.declared.Loaded.TheVariants.{Read, Refused, Failed}
-use Rattle.files.specs.Filled.{InFront, Refilled}
-use Rattle.reader.specs.declared.traverse.Known.{Known}
+use Rattle.reader.proofs.Ends.{Stands, traverse-stands}
+use Rattle.files.specs.declared.Held.{Held}
+use Rattle.files.specs.declared.Stop.TheVariants as stop
 use Rattle.files.specs.Chain.{most_turns}
-use Rattle.files.specs.TraverseFile.{loaded_by, begun, Follows}
+use Rattle.files.specs.Filled.{InFront}
+use Rattle.files.specs.TraverseFile.{file_by, begun, Follows}
 use Rattle.files.proofs.Asks.{Asks, traverse-asks}
 use Rattle.files.proofs.Reached.{reading, asked, answered, walked_on, walked-out}
 use Rattle.files.proofs.Walked.{Walked, walked_none}
 use Rattle.files.proofs.load_traverse.Goals as goal
 
 -- nothing is known, no byte was read, and a file that is not there has ended
-begins : {k : Known} {there opened : Bool} (buf : List ℕ) (points : List ℤ) → k ≡ start → there ≡ opened
-    → Walked Follows (begun opened buf points) (reading k points 0 buf 0 (not there)) most_turns
-begins buf points e f = rw (e, f) (walked_none _)
+begins : {k : Known} {window : Held} (opened : Bool) (buf : List ℕ) (points : List ℤ) → k ≡ start → window ≡ record { have = 0; last = not opened }
+    → Walked Follows (begun opened buf points) (reading k points 0 buf window.have window.last) most_turns
+begins opened buf points e f = rw (e, f) (walked_none _)
 
-pub loop-turns-init : goal.loop-turns-init
-loop-turns-init c = record { points = refl; held = omega arith; walked = begins _ _ c.start-k.ensures c.is_some-last.ensures }
+pub loop-init : goal.loop-init
+loop-init c = record { held = rw c.before-window.ensures (omega arith); walked = begins _ _ _ c.start-known.ensures c.before-window.ensures }
+
+pub returns-in_err-k : goal.returns-in_err-k
+returns-in_err-k c =
+    let e : c.from_residual.result ≡ Err (stop.Refused c.in_err-k.field-0.0) = grind arith in
+    rw e (answered _ _ _ _ _ c.loop.invariant.walked (Err c.in_err-k.field-0.0) _ c.in_err-k.ensures _ _ refl refl)
 
 pub returns-in-Read : goal.returns-in-Read
 returns-in-Read c =
-    let l = c.loop-turns in
-    answered _ _ _ (reading l.k l.points l.line l.buf l.have l.last) l.turns l.invariant.walked c.step-step.result c.step-step.new.points c.step-step.ensures
-    c.file_of.result _ Read c.file_of.ensures (ap loaded_by c.in-Read.is) refl
-
-pub returns-in-Refused : goal.returns-in-Refused
-returns-in-Refused c =
-    let l = c.loop-turns in
-    answered _ _ _ (reading l.k l.points l.line l.buf l.have l.last) l.turns l.invariant.walked c.step-step.result c.step-step.new.points c.step-step.ensures
-    c.file_of-in-Refused.result _ (Refused c.in-Refused.refusal) c.file_of-in-Refused.ensures (ap loaded_by c.in-Refused.is) refl
+    rw c.into.ensures (answered _ _ _ _ _ c.loop.invariant.walked (Ok c.in_ok-k.field-0) _ c.in_ok-k.ensures _ _ (sym (ap (λ (p : Progress). file_by (Ok p)) c.in-Read.is)) refl)
 
 -- a step stops for more of the text within what the window holds, and where it is short of a line
 pub refill-requires : goal.refill-requires
 refill-requires c =
-    let l = c.loop-turns in
-    let w = take l.have l.buf in
-    let e = length-take-le l.have l.buf l.invariant.held in
-    let f = ap (λ (y : Leaves TraverseStep). y.answer.answer) (sym c.step-step.ensures) ∙ c.in-More.is in
-    let x = subst (Step-stands 0 (length w)) f (traverse-stands w l.last (length w) (omega arith) (held l.k l.points) 0 l.line (omega arith)) in
-    let y = subst (Asks (length w) l.last) f (traverse-asks w l.last (held l.k l.points) 0 l.line) in
-    record { place = omega (arith, x.1); held = l.invariant.held; room = omega (arith, y.0) }
+    let t = c.loop in
+    let w = take t.window.have t.buf in
+    let e = length-take-le t.window.have t.buf t.invariant.held in
+    let f = ap (λ (y : Leaves (Result Progress Refusal)). y.answer) (sym c.in_ok-k.ensures) ∙ ap (λ (p : Progress). Ok p) c.in-More.is in
+    let x = subst (Stands 0 (length w)) f (traverse-stands w t.window.last (length w) (omega arith) (held t.known t.points) 0 t.line (omega arith)) in
+    let y = subst (Asks (length w) t.window.last) f (traverse-asks w t.window.last (held t.known t.points) 0 t.line) in
+    record { place = omega (arith, x.1); held = t.invariant.held; room = omega (arith, y.0) }
 
-pub returns-in-Failed : goal.returns-in-Failed
-returns-in-Failed c =
-    let l = c.loop-turns in
-    let x = reading l.k l.points l.line l.buf l.have l.last in
-    let s = c.step-step in
-    let g = asked x s.result s.new.points s.ensures c.in-More.c c.in-More.is in
-    answered _ _ _ x l.turns l.invariant.walked s.result s.new.points s.ensures
-    c.file_of-in-Failed.result _ Failed c.file_of-in-Failed.ensures (ap loaded_by c.in-More.is) (subst (λ (k : ℕ). InFront l.buf c.refill.new.buf k l.have) (sym g) c.in-Failed.ensures)
+pub returns-in_err-window-in-More : goal.returns-in_err-window-in-More
+returns-in_err-window-in-More c =
+    let t = c.loop in
+    let e : c.from_residual-in_err-window-in-More.result ≡ Err stop.Failed = grind arith in
+    let g = asked (reading t.known t.points t.line t.buf t.window.have t.window.last) (Ok c.in_ok-k.field-0) c.step.new.points c.in_ok-k.ensures c.in-More.c c.in-More.k (ap (λ (p : Progress). Ok p) c.in-More.is) in
+    rw e
+    (answered _ _ _ _ _ t.invariant.walked (Ok c.in_ok-k.field-0) _ c.in_ok-k.ensures _ _ (sym (ap (λ (p : Progress). file_by (Ok p)) c.in-More.is))
+    (subst (λ (a : ℕ). InFront t.buf c.refill.new.buf a t.window.have) (sym g) c.in_err-window-in-More.ensures))
 
-pub loop-turns-preserved : goal.loop-turns-preserved
-loop-turns-preserved c =
-    let l = c.loop-turns in
-    let s = c.step-step in
-    let e : Refilled (Holds c.in-Holds.n c.in-Holds.end) l.buf c.refill.new.buf c.in-More.c.at l.have = c.in-Holds.ensures in
+pub loop-preserved : goal.loop-preserved
+loop-preserved c =
+    let t = c.loop in
+    let x = reading t.known t.points t.line t.buf t.window.have t.window.last in
+    let h = c.in_ok-window-in-More.ensures in
     record {
-      points = search rules;
-      held = e.within;
-      walked = walked_on (reading l.k l.points l.line l.buf l.have l.last) s.result s.new.points s.ensures l.turns l.invariant.walked c.in-More.c c.in-More.is c.refill.new.buf _ _ e _ (omega (arith, c.loop-turns-test.true));
+      held = h.within;
+      walked = walked_on x (Ok c.in_ok-k.field-0) _ c.in_ok-k.ensures (most_turns - t.counter) t.invariant.walked c.in-More.c c.in-More.k (ap (λ (p : Progress). Ok p) c.in-More.is) _ _ _ h _ (omega (arith, c.loop-test.true));
     }
 
 pub returns : goal.returns
-returns c =
-    let l = c.loop-turns in
-    walked-out _ _ _ (reading l.k l.points l.line l.buf l.have l.last) l.turns l.invariant.walked (omega arith) c.file_of-2.result c.file_of-2.ensures
+returns c = walked-out _ _ _ _ _ c.loop.invariant.walked (omega arith) _ refl

@@ -1,7 +1,7 @@
 -- `storm_turn` meets its contract: the two turns are those of the definition, by the test for room and by the line.
 use Rattle.std.proofs.Common.{ap}
 use mathlib.Core.Bool.{not}
-use Rattle.records.specs.Shapes.{traverse}
+use Rattle.records.specs.Shapes.{traverse_of}
 use Rattle.hydrograph.proofs.TurnLaws.{heard-start, heard-record, start-with, turn-full, turn-printed}
 use Rattle.hydrograph.proofs.storm_turn.Goals as goal
 
@@ -9,13 +9,13 @@ pub returns-then-not-has_line_room : goal.returns-then-not-has_line_room
 returns-then-not-has_line_room c =
     turn-full c.args.used c.args.out.now _ c.has_line_room.ensures _ c.args.run _ _ (ap not c.if-not-has_line_room.true)
 
-pub returns-then-cursor-eq0 : goal.returns-then-cursor-eq0
-returns-then-cursor-eq0 c =
+pub returns-then-run-eq0 : goal.returns-then-run-eq0
+returns-then-run-eq0 c =
     turn-printed c.args.used c.args.out.now _ c.has_line_room.ensures _ c.args.run _ _ (ap not c.if-not-has_line_room.false) _
-    (heard-start (traverse c.args.head _) _ c.args.last _ _ c.args.run.state _ _ c.if-cursor-eq0.true) _
-    (start-with _ c.args.last _ c.args.run _ _ _ _ c.args.used c.start_turn.ensures)
+    (heard-start (traverse_of c.args.traverse) _ c.args.window.last _ _ c.args.run.state _ _ c.if-run-eq0.true) _
+    (start-with _ c.args.window.last _ c.args.run _ _ _ _ c.args.used c.start_turn.ensures)
 
 pub returns : goal.returns
 returns c =
     turn-printed c.args.used c.args.out.now _ c.has_line_room.ensures _ c.args.run _ _ (ap not c.if-not-has_line_room.false) _
-    (heard-record (traverse c.args.head _) _ c.args.last _ _ c.args.run.state _ _ c.if-cursor-eq0.false) _ c.record_turn.ensures
+    (heard-record (traverse_of c.args.traverse) _ c.args.window.last _ _ c.args.run.state _ _ c.if-run-eq0.false) _ c.record_turn.ensures

@@ -1,45 +1,34 @@
 -- `march_storm` meets its contract. Assumes nothing.
-use Rattle.std.proofs.Common.{◌≡◌, ◌-◌, refl, sym, ◌∙◌, arith, false}
+use Rattle.std.proofs.Common.{◌≡◌, ◌+◌, ◌-◌, Bool, true, false, not, refl, sym, arith, List, ℕ, ℤ}
+use Rattle.records.specs.Shapes.{Traverse}
+use Rattle.hydrograph.specs.declared.Run.{Run}
 use Rattle.surge.specs.Standing.{memory}
-use Rattle.files.proofs.Walked.{never, walked_none, walked_more}
-use borrow.Author.Tests.{not-true, not-false}
+use Rattle.surge.specs.Printed.{TurnMade, begun_at}
+use Rattle.files.specs.Chain.{most_turns}
+use Rattle.files.specs.declared.Held.{Held}
+use Rattle.files.proofs.Walked.{Walked, never, walked_none, walked_more}
 use Rattle.surge.proofs.march_storm.Goals as goal
 
-pub loop-turns-init : goal.loop-turns-init
-loop-turns-init c = record {
-  window = refl;
-  numbers-long = refl;
-  rows-long = refl;
-  out-long = refl;
-  stands = record { place = c.requires.place; held = omega arith; waits = c.requires.waits };
-  on = refl;
-  walked = rw c.is_some.ensures (walked_none _);
-}
+-- no byte was read, and a file that is not there has ended
+begins : {t : Traverse} {run : Run} {used : ℕ} {held : Held} {window : List ℕ} {numbers rows : List ℤ} {out : List ℕ} (opened : Bool) → held ≡ record { have = 0; last = not opened }
+    → Walked (TurnMade t) (memory (begun_at opened run used) true window numbers rows out) (memory (record { run = run; window = held; used = used }) true window numbers rows out) most_turns
+begins opened e = rw e (walked_none _)
 
-pub returns-then-not-x : goal.returns-then-not-x
-returns-then-not-x c =
-    let l = c.loop-turns in
-    let k = c.turn-x in
-    let w = walked_more _ (memory k.result k.new.buf k.new.numbers k.new.rows k.new.out) l.turns (l.turns - 1) l.invariant.walked (l.invariant.on, k.ensures.1) (omega (arith, c.loop-turns-test.true)) in
-    let off : k.result.on ≡ false = not-true _ c.if-not-x.true in
-    (k.ensures.0.waits, record { earlier = w.earlier; standing = k.result; reached = w.reached; ended = λ on. absurd (never (sym on ∙ off)); waits-are = refl })
+pub loop-init : goal.loop-init
+loop-init c = record { stands = record { place = rw c.before-window.ensures c.requires.place; held = rw c.before-window.ensures (omega arith); waits = c.requires.waits }; walked = begins _ c.before-window.ensures }
 
-pub loop-turns-preserved : goal.loop-turns-preserved
-loop-turns-preserved c =
-    let l = c.loop-turns in
-    let k = c.turn-x in
+pub returns-in-Break : goal.returns-in-Break
+returns-in-Break c =
+    let l = c.loop in
+    let k = c.in-Break.ensures in
+    let w = walked_more _ _ (most_turns - l.counter) (most_turns - (l.counter + 1)) l.invariant.walked (refl, k.moved) (omega (arith, c.loop-test.true)) in
+    (k.stands.waits, record { earlier = w.earlier; standing = _; on = false; reached = w.reached; ended = λ e. absurd (never (sym e)); waits-are = refl })
+
+pub loop-preserved : goal.loop-preserved
+loop-preserved c =
+    let l = c.loop in
+    let k = c.in-Continue.ensures in
     record {
-      window = k.auto.buf ∙ l.invariant.window;
-      numbers-long = k.auto.numbers ∙ l.invariant.numbers-long;
-      rows-long = k.auto.rows ∙ l.invariant.rows-long;
-      out-long = k.auto.out ∙ l.invariant.out-long;
-      stands = k.ensures.0;
-      on = not-false _ c.if-not-x.false;
-      walked = walked_more _ _ l.turns (l.turns - 1) l.invariant.walked (l.invariant.on, k.ensures.1) (omega (arith, c.loop-turns-test.true));
+      stands = k.stands;
+      walked = walked_more _ _ (most_turns - l.counter) (most_turns - (l.counter + 1)) l.invariant.walked (refl, k.moved) (omega (arith, c.loop-test.true));
     }
-
-pub returns : goal.returns
-returns c =
-    let l = c.loop-turns in
-    let w = l.invariant.walked in
-    (l.invariant.stands.waits, record { earlier = w.earlier; standing = l.x; reached = w.reached; ended = λ on. omega (arith, w.spent); waits-are = refl })

@@ -1,89 +1,72 @@
 -- `turn` meets its contract. Assumes nothing.
-use Rattle.std.proofs.Common.{◌≡◌, ℕ, ◌≤◌, List, length, refl, subst, arith, ℤ}
-use Rattle.records.specs.Shapes.{Traverse, traverse, count}
-use Rattle.reader.specs.Storm.{record_size}
+use Rattle.std.proofs.Common.{◌≡◌, ℕ, ◌≤◌, List, length, true, refl, subst, arith, ControlFlow}
+use Rattle.records.specs.Shapes.{traverse_of}
 use Rattle.hydrograph.specs.declared.Turn.{Turn}
 use Rattle.hydrograph.specs.declared.Turn.TheVariants as turn
-use Rattle.hydrograph.specs.declared.Turned.{Turned}
-use Rattle.hydrograph.specs.Turns.{left_turn, line_room}
+use Rattle.hydrograph.specs.Turns.{left_turn}
 use Rattle.surge.specs.declared.Standing.{Standing}
-use Rattle.surge.specs.Standing.{Memory, memory, Stands, Moves, Moved}
-use Rattle.surge.proofs.TurnEnds.{Told, Placed, turn-stays, moved, stands-with, stands_read}
+use Rattle.surge.specs.Standing.{memory, Memory, Stands, left_by, goes_on, Moves, AfterTurn}
+use Rattle.surge.proofs.TurnEnds.{Placed, turn-stays, after, stands-with, stands_read}
 use Rattle.surge.proofs.turn.Goals as goal
+use Rattle.surge.proofs.turn.Goals.{After-storm_turn-turned}
 
--- what is known of a turn that was made on t, from the memory a
-module _ (t : Traverse) (a : Memory) (x : Turned) (numbers' rows' : List ℤ) (out' : List ℕ) (p : Stands a.standing (length a.window) (length a.out)) (r : line_room ≤ length a.out)
-    (n : record_size (count t) ≤ length a.numbers) (k : length out' ≡ length a.out) (e : Told t a x numbers' rows' out') where
+-- of the turn that `hydrograph` made
+module _ (c : After-storm_turn-turned) where
+  abbrev before : Memory
+  before = memory c.args.x true c.args.buf.now c.args.numbers.now c.args.rows.now c.args.out.now
+
   -- the cursor and the place of the turn, which are in the window and in the buffer
-  stays : (x.run.cursor.at ≤ a.standing.have) × Placed a.standing.have (length a.out) x.run.cursor.at a.standing.used x.turn
-  stays = turn-stays t a x numbers' rows' out' p.held p.place p.waits r n k e
+  placed : (k : Turn) → c.storm_turn-turned.result.turn ≡ k
+      → (c.storm_turn-turned.result.run.cursor.at ≤ c.args.x.window.have) × Placed c.args.x.window.have (length c.args.out.now) c.storm_turn-turned.result.run.cursor.at c.args.x.used k
+  placed k e =
+      let s = c.storm_turn-turned in
+      let p = c.requires.stands in
+      let r = c.requires.room in
+      let i = turn-stays (traverse_of c.args.traverse) before s.result s.new.numbers s.new.rows s.new.out p.held p.place p.waits r.out-holds r.record-holds s.auto.out s.ensures in
+      (i.0, subst (Placed c.args.x.window.have (length c.args.out.now) s.result.run.cursor.at c.args.x.used) e i.1)
 
-  -- the same where the answer is known
-  placed : (y : Turn) → x.turn ≡ y → Placed a.standing.have (length a.out) x.run.cursor.at a.standing.used y
-  placed y q = subst (Placed a.standing.have (length a.out) x.run.cursor.at a.standing.used) q stays.1
-
-  -- what was done with the answer, from its case
-  done : (y : Turn) → x.turn ≡ y → (s : Standing) (window out : List ℕ) → Moves y (left_turn x numbers' rows' out') a (memory s window numbers' rows' out) → Moved t a (memory s window numbers' rows' out)
-  done y q s window out m = moved t a x numbers' rows' out' e y q (memory s window numbers' rows' out) refl refl m
+  -- what was done with its answer, from the answer's case
+  done : (k : Turn) → c.storm_turn-turned.result.turn ≡ k → (flow : ControlFlow ℕ Standing) (window out : List ℕ)
+      → Stands (left_by flow c.args.x c.storm_turn-turned.result.run) (length window) (length out)
+      → Moves k (left_turn c.storm_turn-turned.result c.storm_turn-turned.new.numbers c.storm_turn-turned.new.rows c.storm_turn-turned.new.out) before
+      (memory (left_by flow c.args.x c.storm_turn-turned.result.run) (goes_on flow) window c.storm_turn-turned.new.numbers c.storm_turn-turned.new.rows out)
+      → AfterTurn (traverse_of c.args.traverse) before flow window c.storm_turn-turned.new.numbers c.storm_turn-turned.new.rows out
+  done k e flow window out s m = let x = c.storm_turn-turned in after (traverse_of c.args.traverse) before x.result x.new.numbers x.new.rows x.new.out x.ensures k e flow window out s m
 
 pub refilled-requires : goal.refilled-requires
 refilled-requires c =
-    let s = c.storm_turn-turned in
-    let p = c.requires in
-    let t = traverse c.args.head c.args.points.now in
-    let a = memory c.args.x c.args.buf.now c.args.numbers.now c.args.rows.now c.args.out.now in
-    let i = stays t a s.result s.new.numbers s.new.rows s.new.out p.0 p.1.1.0 p.1.1.1 s.auto.out s.ensures in
-    let q = placed t a s.result s.new.numbers s.new.rows s.new.out p.0 p.1.1.0 p.1.1.1 s.auto.out s.ensures turn.More c.in-More.is in
-    (record { place = i.0; held = p.0.held; room = omega (arith, i.0, q.0, p.1.0) }, omega (arith, q.1, s.auto.out))
+    let q = placed (goal.at.refilled-requires c).After-storm_turn-turned turn.More c.in-More.is in
+    (record { place = q.0; held = c.requires.stands.held; room = omega (arith, q, c.requires.room.window-holds) }, omega (arith, q, c.storm_turn-turned.auto.out))
 
 pub returns-in-More : goal.returns-in-More
 returns-in-More c =
-    let s = c.storm_turn-turned in
-    let p = c.requires in
+    let here = (goal.at.returns-in-More c).After-storm_turn-turned in
+    let q = placed here turn.More c.in-More.is in
     let f = c.refilled in
-    let t = traverse c.args.head c.args.points.now in
-    let a = memory c.args.x c.args.buf.now c.args.numbers.now c.args.rows.now c.args.out.now in
-    let i = stays t a s.result s.new.numbers s.new.rows s.new.out p.0 p.1.1.0 p.1.1.1 s.auto.out s.ensures in
-    let q = placed t a s.result s.new.numbers s.new.rows s.new.out p.0 p.1.1.0 p.1.1.1 s.auto.out s.ensures turn.More c.in-More.is in (
-      stands_read s.result.run c.args.x f.result c.args.buf.now f.new.buf s.new.out f.new.out f.ensures i.0 (omega (arith, p.0.held, f.auto.buf)) (omega (arith, q.1, s.auto.out, f.auto.out)),
-      done t a s.result s.new.numbers s.new.rows s.new.out p.0 p.1.1.0 p.1.1.1 s.auto.out s.ensures turn.More c.in-More.is f.result f.new.buf f.new.out f.ensures,
-    )
+    done here turn.More c.in-More.is f.result f.new.buf f.new.out
+    (stands_read (goes_on f.result) _ c.args.x _ _ _ _ _ f.ensures q.0 (omega (arith, c.requires.stands.held, f.auto.buf)) (omega (arith, q, c.storm_turn-turned.auto.out, f.auto.out))) f.ensures
 
 pub returns-in-Line : goal.returns-in-Line
 returns-in-Line c =
-    let s = c.storm_turn-turned in
-    let p = c.requires in
-    let t = traverse c.args.head c.args.points.now in
-    let a = memory c.args.x c.args.buf.now c.args.numbers.now c.args.rows.now c.args.out.now in
-    let i = stays t a s.result s.new.numbers s.new.rows s.new.out p.0 p.1.1.0 p.1.1.1 s.auto.out s.ensures in
-    let q = placed t a s.result s.new.numbers s.new.rows s.new.out p.0 p.1.1.0 p.1.1.1 s.auto.out s.ensures (turn.Line c.in-Line.k) c.in-Line.is in (
-      stands-with c.args.x s.result.run c.in-Line.k _ c.waiting.result (length c.args.buf.now) (length s.new.out) c.waiting.ensures i.0 p.0.held (omega (arith, q, s.auto.out)),
-      done t a s.result s.new.numbers s.new.rows s.new.out p.0 p.1.1.0 p.1.1.1 s.auto.out s.ensures (turn.Line c.in-Line.k) c.in-Line.is c.waiting.result c.args.buf.now s.new.out
-          (record { same = c.waiting.ensures; window = refl; out = refl }),
-    )
+    let here = (goal.at.returns-in-Line c).After-storm_turn-turned in
+    let q = placed here (turn.Line c.in-Line.used) c.in-Line.is in
+    done here (turn.Line c.in-Line.used) c.in-Line.is _ c.args.buf.now c.storm_turn-turned.new.out
+    (record { place = q.0; held = c.requires.stands.held; waits = omega (arith, q, c.storm_turn-turned.auto.out) })
+    (record { same = refl; goes = refl; window = refl; out = refl })
 
 pub returns-in-End : goal.returns-in-End
 returns-in-End c =
-    let s = c.storm_turn-turned in
-    let p = c.requires in
-    let t = traverse c.args.head c.args.points.now in
-    let a = memory c.args.x c.args.buf.now c.args.numbers.now c.args.rows.now c.args.out.now in
-    let i = stays t a s.result s.new.numbers s.new.rows s.new.out p.0 p.1.1.0 p.1.1.1 s.auto.out s.ensures in
-    let q = placed t a s.result s.new.numbers s.new.rows s.new.out p.0 p.1.1.0 p.1.1.1 s.auto.out s.ensures (turn.End c.in-End.k) c.in-End.is in (
-      stands-with c.args.x s.result.run c.in-End.k _ c.waiting-in-End.result (length c.args.buf.now) (length s.new.out) c.waiting-in-End.ensures i.0 p.0.held (omega (arith, q, s.auto.out)),
-      done t a s.result s.new.numbers s.new.rows s.new.out p.0 p.1.1.0 p.1.1.1 s.auto.out s.ensures (turn.End c.in-End.k) c.in-End.is c.waiting-in-End.result c.args.buf.now s.new.out
-          (record { same = c.waiting-in-End.ensures; window = refl; out = refl }),
-    )
+    let here = (goal.at.returns-in-End c).After-storm_turn-turned in
+    let q = placed here (turn.End c.in-End.used) c.in-End.is in
+    done here (turn.End c.in-End.used) c.in-End.is _ c.args.buf.now c.storm_turn-turned.new.out
+    (record { place = q.0; held = c.requires.stands.held; waits = omega (arith, q, c.storm_turn-turned.auto.out) })
+    (record { same = refl; goes = refl; window = refl; out = refl })
 
 pub returns-in-Full : goal.returns-in-Full
 returns-in-Full c =
-    let s = c.storm_turn-turned in
-    let p = c.requires in
-    let t = traverse c.args.head c.args.points.now in
-    let a = memory c.args.x c.args.buf.now c.args.numbers.now c.args.rows.now c.args.out.now in
-    let i = stays t a s.result s.new.numbers s.new.rows s.new.out p.0 p.1.1.0 p.1.1.1 s.auto.out s.ensures in
-    let q = placed t a s.result s.new.numbers s.new.rows s.new.out p.0 p.1.1.0 p.1.1.1 s.auto.out s.ensures turn.Full c.in-Full.is in (
-      stands-with c.args.x s.result.run 0 _ c.emptied.result (length c.args.buf.now) (length s.new.out) c.emptied.ensures i.0 p.0.held (omega arith),
-      done t a s.result s.new.numbers s.new.rows s.new.out p.0 p.1.1.0 p.1.1.1 s.auto.out s.ensures turn.Full c.in-Full.is c.emptied.result c.args.buf.now s.new.out
-          (q, record { same = c.emptied.ensures; window = refl; out = refl }),
-    )
+    let here = (goal.at.returns-in-Full c).After-storm_turn-turned in
+    let q = placed here turn.Full c.in-Full.is in
+    let e = c.after_write.ensures.leaves in
+    done here turn.Full c.in-Full.is c.after_write.result c.args.buf.now c.storm_turn-turned.new.out
+    (stands-with c.args.x _ 0 _ _ _ e q.0 c.requires.stands.held (omega arith))
+    (q.1, record { same = e; goes = refl; window = refl; out = refl })

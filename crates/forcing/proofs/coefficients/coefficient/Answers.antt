@@ -1,28 +1,38 @@
 -- `coefficient` meets its contract. Assumes nothing.
-use mathlib.Core.Path.{◌≡◌}
-use mathlib.Core.Bool.{false}
-use lib.IntN.{◌+ℤ◌, ◌-ℤ◌, ◌*ℤ◌}
-use lib.Signed.{le_z, le_z_yes}
-use mir.Facts.{to_z-of_z}
+use lib.IntN.{ℤ, ◌+ℤ◌, ◌-ℤ◌, ◌*ℤ◌}
+use lib.Signed.{◌<ℤ◌, le_z_yes}
 use mir.Syntax.{w64}
 use mir.Val.{SFits}
-use Rattle.ranges.proofs.Branches.{le-false}
+use Rattle.std.proofs.Common.{rules}
+use Rattle.ranges.proofs.Branches.{le-no}
 use Rattle.ranges.proofs.Fits.{sized-fits}
 use Rattle.forcing.specs.Coefficient.{K₁, K₂, Wc}
+use Rattle.forcing.specs.Stress.{Wind}
 use Rattle.forcing.proofs.StressLaws.{square-sized, base-sized, excess-sized, excess-square-sized, added-sized, sum-sized}
 use Rattle.forcing.proofs.coefficients.coefficient.Goals as goal
 
+-- each number that the code makes above W_c fits
+record Steps (w : ℤ) : Type 0 where
+  square : SFits w64 (w *ℤ w)
+  base : SFits w64 (K₁ *ℤ (w *ℤ w))
+  excess : SFits w64 (w -ℤ Wc)
+  excess-square : SFits w64 ((w -ℤ Wc) *ℤ (w -ℤ Wc))
+  added : SFits w64 (K₂ *ℤ ((w -ℤ Wc) *ℤ (w -ℤ Wc)))
+  sum : SFits w64 (K₁ *ℤ (w *ℤ w) +ℤ K₂ *ℤ ((w -ℤ Wc) *ℤ (w -ℤ Wc)))
+
+steps : {w : ℤ} → Wind w → Wc <ℤ w → Steps w
+steps {w} h l = record {
+  square = sized-fits (le_z_yes tt) (square-sized w h);
+  base = sized-fits (le_z_yes tt) (base-sized w h);
+  excess = sized-fits (le_z_yes tt) (excess-sized w h l);
+  excess-square = sized-fits (le_z_yes tt) (excess-square-sized w h l);
+  added = sized-fits (le_z_yes tt) (added-sized w h l);
+  sum = sized-fits (le_z_yes tt) (sum-sized w h l);
+}
+
 -- above W_c
 pub returns : goal.returns
-returns c =
-    let w = c.args.w in
-    let h = c.requires.0 in
-    let t : le_z w Wc ≡ false = simp (to_z-of_z, c.ranges.w) at c.if-w-le-WC.false in
-    let l = le-false w Wc t in
-    let square : SFits w64 (w *ℤ w) = sized-fits (le_z_yes tt) (square-sized w h) in
-    let base : SFits w64 (K₁ *ℤ (w *ℤ w)) = sized-fits (le_z_yes tt) (base-sized w h) in
-    let excess : SFits w64 (w -ℤ Wc) = sized-fits (le_z_yes tt) (excess-sized w h l) in
-    let excess-square : SFits w64 ((w -ℤ Wc) *ℤ (w -ℤ Wc)) = sized-fits (le_z_yes tt) (excess-square-sized w h l) in
-    let added : SFits w64 (K₂ *ℤ ((w -ℤ Wc) *ℤ (w -ℤ Wc))) = sized-fits (le_z_yes tt) (added-sized w h l) in
-    let sum : SFits w64 (K₁ *ℤ (w *ℤ w) +ℤ K₂ *ℤ ((w -ℤ Wc) *ℤ (w -ℤ Wc))) = sized-fits (le_z_yes tt) (sum-sized w h l) in
-    rw t (simp (to_z-of_z, c.ranges.w, square, base, excess, excess-square, added, sum))
+returns c = search (rules, steps, le-no)
+
+pub overflow_add-numerator : goal.overflow_add-numerator
+overflow_add-numerator c = search (rules, steps)

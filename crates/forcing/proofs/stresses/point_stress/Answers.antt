@@ -1,41 +1,30 @@
 -- `point_stress` meets its contract. Assumes nothing.
-use mathlib.Core.Path.{◌≡◌}
-use lib.IntN.{ℤ}
-use mir.Facts.{to_z-of_z}
+use lib.IntN.{ℤ, ◌*ℤ◌}
+use lib.Signed.{le_z_yes}
 use mir.Syntax.{w64}
-use mir.Val.{SFits, to_z, of_z}
+use mir.Val.{SFits}
+use Rattle.std.proofs.Common.{rules}
+use Rattle.ranges.proofs.Fits.{sized-fits}
 use Rattle.forcing.specs.Quadrant.{Angle, sine_of, cosine_of}
 use Rattle.forcing.specs.Stress.{Wind, stress_of, cross_of, onshore_of}
-use Rattle.forcing.proofs.QuadrantLaws.{sine-sized, cosine-sized}
-use Rattle.forcing.proofs.StressLaws.{Part, part}
+use Rattle.forcing.proofs.StressLaws.{cross-sized, onshore-sized}
 use Rattle.forcing.proofs.stresses.point_stress.Goals as goal
 
--- q, and its parts by sine and by cosine
-module _ (w a q x : ℤ) (fw : SFits w64 w) (fa : SFits w64 a) (h : Wind w) (k : Angle a) (e : q ≡ stress_of (to_z w64 (of_z w64 w))) where
-  across : x ≡ sine_of (to_z w64 (of_z w64 a)) → Part w (sine_of a) q x
-  across i = part h (sine-sized a k) (simp (to_z-of_z, fw) at e) (simp (to_z-of_z, fa) at i)
+-- both parts fit
+record Parts (w a : ℤ) : Type 0 where
+  across : SFits w64 (stress_of w *ℤ sine_of a)
+  along : SFits w64 (stress_of w *ℤ cosine_of a)
 
-  along : x ≡ cosine_of (to_z w64 (of_z w64 a)) → Part w (cosine_of a) q x
-  along i = part h (cosine-sized a k) (simp (to_z-of_z, fw) at e) (simp (to_z-of_z, fa) at i)
+parts : {w a : ℤ} → Wind w → Angle a → Parts w a
+unfolding cross_of onshore_of
+parts {w} {a} h k = record { across = sized-fits (le_z_yes tt) (cross-sized w a h k); along = sized-fits (le_z_yes tt) (onshore-sized w a h k) }
 
-pub overflow_mul-cross : goal.overflow_mul-cross
-overflow_mul-cross c =
-    let q : SFits w64 c.stress-q.result = record { sfits = c.stress-q.type_inv } in
-    let s : SFits w64 c.sine-across.result = record { sfits = c.sine-across.type_inv } in
-    simp (to_z-of_z, q, s) (across _ _ _ _ c.ranges.wind c.ranges.angle c.requires.1.0 c.requires.1.1 c.stress-q.ensures c.sine-across.ensures).fits
+pub overflow_mul-result : goal.overflow_mul-result
+overflow_mul-result c = search (rules, parts c.requires.0 c.requires.1)
 
-pub overflow_mul-onshore : goal.overflow_mul-onshore
-overflow_mul-onshore c =
-    let q : SFits w64 c.stress-q.result = record { sfits = c.stress-q.type_inv } in
-    let s : SFits w64 c.cosine-along.result = record { sfits = c.cosine-along.type_inv } in
-    simp (to_z-of_z, q, s) (along _ _ _ _ c.ranges.wind c.ranges.angle c.requires.1.0 c.requires.1.1 c.stress-q.ensures c.cosine-along.ensures).fits
+pub overflow_mul-result-2 : goal.overflow_mul-result-2
+overflow_mul-result-2 c = search (rules, parts c.requires.0 c.requires.1)
 
 pub returns : goal.returns
 unfolding cross_of onshore_of
-returns c =
-    let q : SFits w64 c.stress-q.result = record { sfits = c.stress-q.type_inv } in
-    let s : SFits w64 c.sine-across.result = record { sfits = c.sine-across.type_inv } in
-    let t : SFits w64 c.cosine-along.result = record { sfits = c.cosine-along.type_inv } in
-    let x = across _ _ _ _ c.ranges.wind c.ranges.angle c.requires.1.0 c.requires.1.1 c.stress-q.ensures c.sine-across.ensures in
-    let y = along _ _ _ _ c.ranges.wind c.ranges.angle c.requires.1.0 c.requires.1.1 c.stress-q.ensures c.cosine-along.ensures in
-    simp (to_z-of_z, q, s, t, x.fits, y.fits) (rw (x.is, y.is))
+returns c = search (rules, parts c.requires.0 c.requires.1)

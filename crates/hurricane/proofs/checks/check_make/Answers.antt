@@ -1,11 +1,11 @@
 -- `check_make` meets its contract: the first that fails decides. Assumes nothing.
-use Rattle.std.proofs.Common.{◌≡◌, ℕ, ℤ, sym, ◌∙◌, ◌&&◌, List, [], ◌∷◌, ◌*◌, ◌≤◌, length, leb, rules}
-use borrow.Author.Tests.{lt-leb, le-leb}
-use Rattle.records.specs.declared.Check.{Check}
+use Rattle.std.proofs.Common.{◌≡◌, ℕ, ℤ, sym, ◌∙◌, ◌&&◌, List, [], ◌∷◌, ◌*◌, length, leb, rules, Err}
 use Rattle.records.specs.declared.Kind.TheVariants.{Lent, StormValue, WindRadii}
-use Rattle.records.specs.CheckOrder.{need, each, first_of}
+use Rattle.records.specs.declared.Refusal.{Refusal}
+use Rattle.records.specs.CheckOrder.{Check, Pass, Fail, need, each, first_of}
 use Rattle.records.specs.Limits.{count_ok, most_points}
 use Rattle.records.specs.Refusals.{refusal}
+use Rattle.records.proofs.CheckOrderLaws.{then-pass}
 use Rattle.records.proofs.GroupLaws.{wholes-fit}
 use Rattle.hurricane.specs.declared.Hurricane.{Hurricane}
 use Rattle.hurricane.specs.Groups.{wind_count, site_count}
@@ -21,90 +21,70 @@ by-counts : (h : Hurricane) (winds sites : List ℤ) (room rows points : ℕ) (x
 unfolding make_checks
 by-counts h winds sites room rows points x e f k = rw (e, f) at k
 
-rows-fit : (winds : List ℤ) (n : ℕ) → n ≡ wind_count winds → 2 * n ≤ length winds
-rows-fit winds n e = rw e (wholes-fit 2 (length winds))
-
-points-fit : (sites : List ℤ) (n : ℕ) → n ≡ site_count sites → 3 * n ≤ length sites
-points-fit sites n e = rw e (wholes-fit 3 (length sites))
-
-pub returns-then-not-numbers_ok : goal.returns-then-not-numbers_ok
+-- the first of a list fails, or passes and the rest decides
+stops : {c : Check} {r : Refusal} (l : List Check) → c ≡ Fail r → Fail r ≡ first_of (c ∷ l)
 unfolding first_of
-returns-then-not-numbers_ok c =
-    by-counts _ _ _ _ c.whole_groups-rows.result c.whole_groups-points.result _ c.whole_groups-rows.ensures c.whole_groups-points.ensures
-    (rw (sym c.numbers_ok.ensures ∙ c.if-not-numbers_ok.true))
+stops l e = rw e
 
-pub bad_wind_row-row-requires : goal.bad_wind_row-row-requires
-bad_wind_row-row-requires c = rows-fit _ _ c.whole_groups-rows.ensures
-
-pub returns-in-Fail : goal.returns-in-Fail
+passes : {c x : Check} (l : List Check) → c ≡ Pass → x ≡ first_of l → x ≡ first_of (c ∷ l)
 unfolding first_of
-returns-in-Fail c =
-    by-counts _ _ _ _ c.whole_groups-rows.result c.whole_groups-points.result _ c.whole_groups-rows.ensures c.whole_groups-points.ensures
-    (rw (sym c.numbers_ok.ensures ∙ c.if-not-numbers_ok.false, ← c.bad_wind_row-row.ensures, sym c.first_bad.ensures ∙ c.in-Fail.is))
+passes l e k = rw e k
 
-pub bad_site-point-requires : goal.bad_site-point-requires
-bad_site-point-requires c = points-fit _ _ c.whole_groups-points.ensures
-
-pub returns-in-Fail-first_bad : goal.returns-in-Fail-first_bad
+ends : {c x : Check} → x ≡ c → x ≡ first_of (c ∷ [])
 unfolding first_of
-returns-in-Fail-first_bad c =
-    by-counts _ _ _ _ c.whole_groups-rows.result c.whole_groups-points.result _ c.whole_groups-rows.ensures c.whole_groups-points.ensures
-    (rw (
-      sym c.numbers_ok.ensures ∙ c.if-not-numbers_ok.false,
-      ← c.bad_wind_row-row.ensures,
-      sym c.first_bad.ensures ∙ c.in_default.is,
-      ← c.bad_site-point.ensures,
-      sym c.first_bad-2.ensures ∙ c.in-Fail-first_bad.is,
-    ))
+ends {c} e = e ∙ sym (then-pass c)
 
-pub bad_radius-fall-requires : goal.bad_radius-fall-requires
-bad_radius-fall-requires c = rows-fit _ _ c.whole_groups-rows.ensures
+pub returns-in_err-need : goal.returns-in_err-need
+returns-in_err-need c =
+    let e : c.from_residual.result ≡ Err c.in_err-need.field-0.0 = search rules in
+    let a = rw (c.numbers_ok.ensures, c.new.ensures) at c.need.ensures in
+    by-counts _ _ _ _ c.count-rows.result c.count-points.result _ c.count-rows.ensures c.count-points.ensures (e ∙ stops _ (sym a ∙ c.in_err-need.was))
 
-pub returns-in-Fail-first_bad-2 : goal.returns-in-Fail-first_bad-2
-unfolding first_of
-returns-in-Fail-first_bad-2 c =
-    by-counts _ _ _ _ c.whole_groups-rows.result c.whole_groups-points.result _ c.whole_groups-rows.ensures c.whole_groups-points.ensures
-    (rw (
-      sym c.numbers_ok.ensures ∙ c.if-not-numbers_ok.false,
-      ← c.bad_wind_row-row.ensures,
-      sym c.first_bad.ensures ∙ c.in_default.is,
-      ← c.bad_site-point.ensures,
-      sym c.first_bad-2.ensures ∙ c.in_default-first_bad.is,
-      ← c.bad_radius-fall.ensures,
-      sym c.first_bad-3.ensures ∙ c.in-Fail-first_bad-2.is,
-    ))
+pub each-requires : goal.each-requires
+each-requires c = let f = wholes-fit 2 (length c.args.winds.now) in λ i h. let e = c.count-rows.ensures in search rules
+
+pub returns-in_err-each : goal.returns-in_err-each
+returns-in_err-each c =
+    let e : c.from_residual-in_err-each.result ≡ Err c.in_err-each.field-0.0 = search rules in
+    let a = rw (c.numbers_ok.ensures, c.new.ensures) at c.need.ensures in
+    let b = c.each.ensures (wind_rows_ok c.args.winds.now) (λ i b h p. search rules) in
+    by-counts _ _ _ _ c.count-rows.result c.count-points.result _ c.count-rows.ensures c.count-points.ensures
+    (passes _ (sym a ∙ c.in_ok-need.was) (e ∙ stops _ (sym b ∙ c.in_err-each.was)))
+
+pub each-requires-2 : goal.each-requires-2
+each-requires-2 c = let f = wholes-fit 3 (length c.args.sites.now) in λ i h. let e = c.count-points.ensures in search rules
+
+pub returns-in_err-each-2 : goal.returns-in_err-each-2
+returns-in_err-each-2 c =
+    let e : c.from_residual-in_err-each-2.result ≡ Err c.in_err-each-2.field-0.0 = search rules in
+    let a = rw (c.numbers_ok.ensures, c.new.ensures) at c.need.ensures in
+    let b = c.each.ensures (wind_rows_ok c.args.winds.now) (λ i b h p. search rules) in
+    let d = c.each-2.ensures (sites_ok c.args.sites.now) (λ i b h p. search rules) in
+    by-counts _ _ _ _ c.count-rows.result c.count-points.result _ c.count-rows.ensures c.count-points.ensures
+    (passes _ (sym a ∙ c.in_ok-need.was) (passes _ (sym b ∙ c.in_ok-each.was) (e ∙ stops _ (sym d ∙ c.in_err-each-2.was))))
+
+pub each-requires-3 : goal.each-requires-3
+each-requires-3 c = let f = wholes-fit 2 (length c.args.winds.now) in λ i h. let e = c.count-rows.ensures in search rules
+
+pub returns-in_err-each-3 : goal.returns-in_err-each-3
+returns-in_err-each-3 c =
+    let e : c.from_residual-in_err-each-3.result ≡ Err c.in_err-each-3.field-0.0 = search rules in
+    let a = rw (c.numbers_ok.ensures, c.new.ensures) at c.need.ensures in
+    let b = c.each.ensures (wind_rows_ok c.args.winds.now) (λ i b h p. search rules) in
+    let d = c.each-2.ensures (sites_ok c.args.sites.now) (λ i b h p. search rules) in
+    let f = c.each-3.ensures (rising_ok c.args.winds.now) (λ i b h p. search rules) in
+    by-counts _ _ _ _ c.count-rows.result c.count-points.result _ c.count-rows.ensures c.count-points.ensures
+    (passes _ (sym a ∙ c.in_ok-need.was) (passes _ (sym b ∙ c.in_ok-each.was) (passes _ (sym d ∙ c.in_ok-each-2.was) (e ∙ stops _ (sym f ∙ c.in_err-each-3.was)))))
 
 pub overflow_mul-points : goal.overflow_mul-points
-overflow_mul-points c =
-    let p : 3 * c.whole_groups-points.result ≤ length c.args.sites.now = points-fit _ _ c.whole_groups-points.ensures in
-    search rules
-
-pub returns-then-room-points : goal.returns-then-room-points
-unfolding first_of
-returns-then-room-points c =
-    by-counts _ _ _ _ c.whole_groups-rows.result c.whole_groups-points.result _ c.whole_groups-rows.ensures c.whole_groups-points.ensures
-    (rw (
-      sym c.numbers_ok.ensures ∙ c.if-not-numbers_ok.false,
-      ← c.bad_wind_row-row.ensures,
-      sym c.first_bad.ensures ∙ c.in_default.is,
-      ← c.bad_site-point.ensures,
-      sym c.first_bad-2.ensures ∙ c.in_default-first_bad.is,
-      ← c.bad_radius-fall.ensures,
-      sym c.first_bad-3.ensures ∙ c.in_default-first_bad-2.is,
-      lt-leb _ _ c.if-room-points.true,
-    ))
+overflow_mul-points c = let f = wholes-fit 3 (length c.args.sites.now) in let e = c.count-points.ensures in search rules
 
 pub returns : goal.returns
-unfolding first_of
 returns c =
-    by-counts _ _ _ _ c.whole_groups-rows.result c.whole_groups-points.result _ c.whole_groups-rows.ensures c.whole_groups-points.ensures
-    (rw (
-      sym c.numbers_ok.ensures ∙ c.if-not-numbers_ok.false,
-      ← c.bad_wind_row-row.ensures,
-      sym c.first_bad.ensures ∙ c.in_default.is,
-      ← c.bad_site-point.ensures,
-      sym c.first_bad-2.ensures ∙ c.in_default-first_bad.is,
-      ← c.bad_radius-fall.ensures,
-      sym c.first_bad-3.ensures ∙ c.in_default-first_bad-2.is,
-      le-leb _ _ c.if-room-points.false,
-    ))
+    let a = rw (c.numbers_ok.ensures, c.new.ensures) at c.need.ensures in
+    let b = c.each.ensures (wind_rows_ok c.args.winds.now) (λ i b h p. search rules) in
+    let d = c.each-2.ensures (sites_ok c.args.sites.now) (λ i b h p. search rules) in
+    let f = c.each-3.ensures (rising_ok c.args.winds.now) (λ i b h p. search rules) in
+    let g = rw c.new-2.ensures at c.need-2.ensures in
+    by-counts _ _ _ _ c.count-rows.result c.count-points.result _ c.count-rows.ensures c.count-points.ensures
+    (passes _ (sym a ∙ c.in_ok-need.was) (passes _ (sym b ∙ c.in_ok-each.was) (passes _ (sym d ∙ c.in_ok-each-2.was) (passes _ (sym f ∙ c.in_ok-each-3.was) (ends g)))))

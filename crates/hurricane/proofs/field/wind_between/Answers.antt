@@ -3,17 +3,13 @@ use Rattle.std.proofs.Common.{◌≡◌, ℤ, sym, ap, subst, ◌∙◌, rules, 
 use borrow.Author.Rules.{sfits_of}
 use mir.Facts.{to_z-of_z}
 use mir.Syntax.{w64}
-use mir.Val.{SFits, to_z, of_z}
+use mir.Val.{SFits}
 use Rattle.ranges.specs.Division.{floor_div}
 use Rattle.hurricane.specs.declared.WindRow.{WindRow}
 use Rattle.hurricane.specs.Bounds.{BetweenRows}
 use Rattle.hurricane.specs.Field.{straight}
-use Rattle.hurricane.proofs.FieldLaws.{wind-change-fits, far-fits, change-fits, span_fits, straight-is, straight-fits}
+use Rattle.hurricane.proofs.FieldLaws.{read, wind-change-fits, far-fits, change-fits, span_fits, straight-is, straight-fits}
 use Rattle.hurricane.proofs.field.wind_between.Goals as goal
-
--- a number as the machine reads it
-abbrev read : ℤ → ℤ
-read z = to_z w64 (of_z w64 z)
 
 module _ (a b : WindRow) (r : ℤ) (h : BetweenRows a b r) (fr : SFits w64 r) (from : SFits w64 a.radius) (to : SFits w64 b.radius) (start : SFits w64 a.wind) (end : SFits w64 b.wind) where
   -- each number on the way is the definition's

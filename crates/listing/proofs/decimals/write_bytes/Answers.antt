@@ -1,13 +1,16 @@
 -- `decimals::write_bytes` meets its contract. Assumes nothing.
-use Rattle.std.proofs.Common.{arith}
-use Rattle.listing.proofs.Written.{copied_none, copied_more, copied_all}
+use Rattle.std.proofs.Common.{length, refl, ◌∙◌, arith}
+use Rattle.std.proofs.lemmas.Slice.{put_mid-paste}
+use lib.Seq.{take-length}
+use Rattle.listing.specs.Put.{written}
 use Rattle.listing.proofs.decimals.write_bytes.Goals as goal
 
-pub loop-i-init : goal.loop-i-init
-loop-i-init c = copied_none _ _ _
-
-pub loop-i-preserved : goal.loop-i-preserved
-loop-i-preserved c = copied_more c.loop-i.invariant c.requires (omega arith)
-
 pub returns : goal.returns
-returns c = copied_all c.loop-i.invariant c.requires (omega arith)
+unfolding written
+returns c =
+    let bytes = c.args.bytes.now in
+    record {
+      place = refl;
+      buffer = put_mid-paste c.args.at _ c.args.out.now _ bytes (length bytes) c.copy_from_slice.ensures.after (omega arith) refl
+          ∙ rw (take-length bytes);
+    }

@@ -1,19 +1,21 @@
 -- `check_record` meets its contract. Assumes nothing.
-use mathlib.Core.Path.{sym, ◌∙◌}
-use Rattle.records.specs.CheckOrder.{first_of}
+use Rattle.std.proofs.Common.{rules, ◌≡◌}
+use Rattle.records.specs.declared.Kind.TheVariants.{CalmAngle}
+use Rattle.records.specs.CheckOrder.{each, first_of}
 use Rattle.records.proofs.CheckOrderLaws.{then-pass}
-use Rattle.march.specs.Checks.{record_checks}
+use Rattle.march.specs.Checks.{points_ok, calms_ok, record_checks}
 use Rattle.march.proofs.checks.check_record.Goals as goal
 
-pub returns-then-not-times_ok : goal.returns-then-not-times_ok
+pub returns-in_err-each : goal.returns-in_err-each
 unfolding record_checks first_of
-returns-then-not-times_ok c = rw (sym c.if-not-times_ok.ensures)
-
-pub returns-in-Fail : goal.returns-in-Fail
-unfolding record_checks first_of
-returns-in-Fail c = rw (sym c.if-not-times_ok.ensures, ← c.bad_point-value.ensures, sym c.first_bad.ensures ∙ c.in-Fail.is)
+returns-in_err-each c =
+    let a = c.in_err-each.ensures (points_ok c.args.storm.points.now) (λ i b h p. search rules) in
+    search rules
 
 pub returns : goal.returns
 unfolding record_checks first_of
 returns c =
-    rw (c.first_bad-2.ensures, sym c.if-not-times_ok.ensures, ← c.bad_point-value.ensures, sym c.first_bad.ensures ∙ c.in_default.is, ← c.bad_calm-calm.ensures) (sym (then-pass _))
+    let a = c.in_ok-each.ensures (points_ok c.args.storm.points.now) (λ i b h p. search rules) in
+    let calms = each CalmAngle (calms_ok c.args.storm.points.now) c.args.n in
+    let b : c.each-2.result ≡ calms = c.each-2.ensures (calms_ok c.args.storm.points.now) (λ i b h p. search rules) in
+    rw (b, ← then-pass calms) (search rules)

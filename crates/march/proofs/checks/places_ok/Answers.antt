@@ -8,10 +8,10 @@ pub returns-then-places-eq0 : goal.returns-then-places-eq0
 unfolding places_ok
 returns-then-places-eq0 c = simp (eq-eqb _ _ c.if-places-eq0.true)
 
-pub returns-then-places-ne0 : goal.returns-then-places-ne0
+pub returns-then-places-eq0-2 : goal.returns-then-places-eq0-2
 unfolding places_ok
-returns-then-places-ne0 c = simp (ne_eqb _ _ c.if-places-eq0.false, odd _ c.args.n c.if-places-ne0.true)
+returns-then-places-eq0-2 c = rw (ne_eqb c.args.places 0 c.if-places-eq0.false) (halves _ c.args.n c.if-places-eq0-2.true)
 
-pub returns : goal.returns
+pub returns-else-places-eq0-2 : goal.returns-else-places-eq0-2
 unfolding places_ok
-returns c = rw (ne_eqb _ _ c.if-places-eq0.false) (halves _ c.args.n c.if-places-ne0.false)
+returns-else-places-eq0-2 c = rw (ne_eqb _ _ c.if-places-eq0-2.false, ne_eqb c.args.places 0 c.if-places-eq0.false, odd _ c.args.n c.if-places-eq0-2.false)

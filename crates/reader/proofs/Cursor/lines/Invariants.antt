@@ -9,7 +9,7 @@ use Rattle.reader.proofs.Cursor.lines.Given as goal
 
 abbrev pub invariant-loop-d : goal.invariant-loop-d
 invariant-loop-d l = record {
-  scan : Scan 10 l.s l.initial.c.at l.c.at l.count l.value l.d;
+  scan : Scan 10 l.s l.initial.c.at l.c.at l.count l.value;
   few : l.count ≤ 9;
   line : l.c.line ≡ l.initial.c.line;
 }
@@ -19,7 +19,6 @@ decreases-loop-d l = length l.s - l.c.at
 
 abbrev pub invariant-loop-k : goal.invariant-loop-k
 invariant-loop-k l = record {
-  within : l.k ≤ l.width;
   line : l.c.line ≡ l.initial.c.line;
   keeping : Keeping l.initial.out l.initial.kept.next l.out l.kept.next;
   place : l.kept.next ≡ number_place l.width l.shared l.i l.k;
@@ -27,15 +26,11 @@ invariant-loop-k l = record {
       ≡ values_at l.s l.shared l.i l.width 0 l.initial.c.at (take l.initial.kept.next l.initial.out) l.initial.kept.same;
 }
 
-abbrev pub invariant-lines : goal.invariant-lines
-invariant-lines l = record {
-  within : l.i ≤ l.n;
+abbrev pub invariant-loop-i : goal.invariant-loop-i
+invariant-loop-i l = record {
   keeping : Keeping l.fn.out 0 l.out l.kept.next;
   place : l.kept.next ≡ number_place l.width l.shared l.i 0;
   same : l.kept.same ≡ true;
   rest : lines_at l.s l.width l.shared (l.n - l.i) l.i l.c.at l.c.line (take l.kept.next l.out)
       ≡ lines_at l.s l.width l.shared l.n 0 l.fn.self.at l.fn.self.line [];
 }
-
-abbrev pub decreases-lines : goal.decreases-lines
-decreases-lines l = l.n - l.i

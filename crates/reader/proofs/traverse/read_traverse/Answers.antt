@@ -1,17 +1,15 @@
 -- `read_traverse` meets its contract. Assumes nothing.
-use Rattle.std.proofs.Common.{◌∙◌}
+use Rattle.std.proofs.Common.{Err, ◌≡◌, ◌∙◌, arith}
 use Rattle.reader.specs.Traverse.{traverse_left}
-use Rattle.reader.proofs.TraverseLaws.{whole_is, whole-refused, whole-read, whole-more}
+use Rattle.reader.proofs.TraverseLaws.{whole_is, whole-refused, whole-read}
 use Rattle.reader.proofs.traverse.read_traverse.Goals as goal
 
-pub returns-in-Refused : goal.returns-in-Refused
+pub returns-in_err-k : goal.returns-in_err-k
 unfolding traverse_left
-returns-in-Refused c = whole-refused _ c.step-step.result _ (c.step-step.ensures ∙ whole_is _ _ _ c.start.ensures) _ _ c.in-Refused.is c.no_head.ensures
+returns-in_err-k c =
+    let e : c.from_residual.result ≡ Err c.in_err-k.field-0.0 = grind arith in
+    rw e (whole-refused _ _ _ (c.in_err-k.ensures ∙ whole_is _ _ _ c.start.ensures))
 
-pub returns-in-More : goal.returns-in-More
+pub returns : goal.returns
 unfolding traverse_left
-returns-in-More c = whole-more _ c.step-step.result _ (c.step-step.ensures ∙ whole_is _ _ _ c.start.ensures) _ _ c.in-More.is
-
-pub returns-in-Read : goal.returns-in-Read
-unfolding traverse_left
-returns-in-Read c = whole-read _ c.step-step.result _ (c.step-step.ensures ∙ whole_is _ _ _ c.start.ensures) c.in-Read.is
+returns c = rw c.into.ensures (whole-read _ _ _ _ (c.in_ok-k.ensures ∙ whole_is _ _ _ c.start.ensures) c.in-Read.is)

@@ -1,12 +1,12 @@
 -- `flux_range` meets its contract. Assumes nothing.
-use Rattle.std.proofs.Common.{◌≡◌, ◌∙◌, ap, false, w64, FitsSigned}
+use Rattle.std.proofs.Common.{◌≡◌, ◌∙◌, false, w64, FitsSigned}
+use mathlib.Core.Path.{ap₂}
 use Rattle.std.proofs.lemmas.Int.{to_z-of_z}
 use lib.Signed.{le_z_yes}
 use Rattle.ranges.specs.declared.Range.{Range}
 use Rattle.ranges.specs.Damped.{damped_of}
 use Rattle.ranges.proofs.Fits.{sized-fits}
 use Rattle.records.specs.declared.Row.{Row}
-use Rattle.records.specs.Rows.{row_flux}
 use Rattle.segment.specs.declared.Site.{Site}
 use Rattle.segment.specs.declared.Weather.{Weather}
 use Rattle.segment.specs.Segment.{drag, segment_force, flux_of, SiteIn, WeatherIn, RowIn}
@@ -42,7 +42,7 @@ returns-then-first c =
     let i = c.requires.0 in
     let j = c.requires.1 in
     let k = c.requires.2 in
-    rw c.if-first.true (simp (to_z-of_z, vl i j k, vh i j k))
+    rw (c.if-first.true, c.flux-old.ensures)
 
 pub overflow_mul-site : goal.overflow_mul-site
 overflow_mul-site c =
@@ -57,7 +57,7 @@ damped-requires c =
     let j = c.requires.1 in
     let k = c.requires.2 in
     let e : c.force-force.result ≡ segment_force false c.args.weather c.args.row = simp (to_z-of_z, ws i j k, vc i j k, wc i j k) at c.force-force.ensures in
-    simp (to_z-of_z, sf i j k, ws i j k, drags i j k, vl i j k, vh i j k) (rw e (damped-in i j k c.requires.3))
+    simp (to_z-of_z, sf i j k, ws i j k, drags i j k) (rw (e, c.flux-old.ensures) (damped-in i j k c.requires.3))
 
 pub returns : goal.returns
 unfolding flux_of
@@ -67,5 +67,5 @@ returns c =
     let k = c.requires.2 in
     let e : c.force-force.result ≡ segment_force false c.args.weather c.args.row = simp (to_z-of_z, ws i j k, vc i j k, wc i j k) at c.force-force.ensures in
     rw c.if-first.false
-    ((simp (to_z-of_z, sf i j k, ws i j k, drags i j k, vl i j k, vh i j k) at c.damped.ensures)
-    ∙ ap (λ (z : Range). damped_of (drag c.args.site c.args.weather) (row_flux c.args.row) z c.args.depth) e)
+    ((simp (to_z-of_z, sf i j k, ws i j k, drags i j k) at c.damped.ensures)
+    ∙ ap₂ (λ (y z : Range). damped_of (drag c.args.site c.args.weather) y z c.args.depth) c.flux-old.ensures e)

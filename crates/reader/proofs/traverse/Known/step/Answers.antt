@@ -1,21 +1,21 @@
 -- `Known::step` meets its contract. Assumes nothing.
-use Rattle.std.proofs.Common.{sym, ◌∙◌, arith}
+use Rattle.std.proofs.Common.{Err, ◌≡◌, sym, ◌∙◌, arith}
 use Rattle.reader.proofs.TraverseLaws.{step-more, step_end, step-read, step-refused, step-on}
 use Rattle.reader.proofs.traverse.Known.step.Goals as goal
 
 pub returns-then-not-holds : goal.returns-then-not-holds
-returns-then-not-holds c = step-more _ _ _ _ _ (sym c.holds.ensures ∙ c.if-not-holds.true) ∙ c.loop-c.invariant
+returns-then-not-holds c = step-more _ _ _ _ _ (sym c.holds.ensures ∙ c.if-not-holds.true) ∙ c.loop-k.invariant
 
-pub returns-then-c-w : goal.returns-then-c-w
-returns-then-c-w c = step_end _ _ _ _ _ (sym c.holds.ensures ∙ c.if-not-holds.false) _ _ c.if-c-w.true c.whole_groups.ensures c.end.ensures ∙ c.loop-c.invariant
+pub returns-then-c-window : goal.returns-then-c-window
+returns-then-c-window c = step_end _ _ _ _ _ (sym c.holds.ensures ∙ c.if-not-holds.false) _ _ c.if-c-window.true c.count.ensures c.end.ensures ∙ c.loop-k.invariant
 
-pub loop-c-smaller : goal.loop-c-smaller
-loop-c-smaller c = omega (arith, step-on _ _ _ _ _ (sym c.holds.ensures ∙ c.if-not-holds.false) c.if-c-w.false _ _ c.line.ensures _ _ c.in-Read.is)
+pub loop-k-smaller : goal.loop-k-smaller
+loop-k-smaller c = omega (arith, step-on _ _ _ _ _ (sym c.holds.ensures ∙ c.if-not-holds.false) c.if-c-window.false _ _ _ c.in_ok-c.ensures)
 
-pub loop-c-preserved : goal.loop-c-preserved
-loop-c-preserved c =
-    step-read _ _ _ _ _ (sym c.holds.ensures ∙ c.if-not-holds.false) c.if-c-w.false _ _ c.line.ensures _ _ c.in-Read.is ∙ c.loop-c.invariant
+pub loop-k-preserved : goal.loop-k-preserved
+loop-k-preserved c = step-read _ _ _ _ _ (sym c.holds.ensures ∙ c.if-not-holds.false) c.if-c-window.false _ _ _ c.in_ok-c.ensures ∙ c.loop-k.invariant
 
-pub returns-in-Refused : goal.returns-in-Refused
-returns-in-Refused c =
-    step-refused _ _ _ _ _ (sym c.holds.ensures ∙ c.if-not-holds.false) c.if-c-w.false _ _ c.line.ensures _ _ c.in-Refused.is c.refused_step.ensures ∙ c.loop-c.invariant
+pub returns-in_err-c : goal.returns-in_err-c
+returns-in_err-c c =
+    let e : c.from_residual.result ≡ Err c.in_err-c.field-0.0 = grind arith in
+    rw e (step-refused _ _ _ _ _ (sym c.holds.ensures ∙ c.if-not-holds.false) c.if-c-window.false _ _ c.in_err-c.ensures ∙ c.loop-k.invariant)

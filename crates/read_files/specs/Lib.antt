@@ -1,2 +1,0 @@
--- The root of the definitions of `read_files`.
-pub mod Standing
