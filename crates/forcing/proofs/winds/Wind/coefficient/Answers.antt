@@ -9,7 +9,7 @@ use Rattle.ranges.proofs.Fits.{sized-fits}
 use Rattle.forcing.specs.Coefficient.{K₁, K₂, Wc}
 use Rattle.forcing.specs.Stress.{Wind}
 use Rattle.forcing.proofs.StressLaws.{square-sized, base-sized, excess-sized, excess-square-sized, added-sized, sum-sized}
-use Rattle.forcing.proofs.coefficients.coefficient.Goals as goal
+use Rattle.forcing.proofs.winds.Wind.coefficient.Goals as goal
 
 -- each number that the code makes above W_c fits
 record Steps (w : ℤ) : Type 0 where

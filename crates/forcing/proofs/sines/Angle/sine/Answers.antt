@@ -13,7 +13,7 @@ use Rattle.forcing.specs.declared.sines.Place.{Place}
 use Rattle.forcing.specs.Quadrant.{Angle, place_of, sine_of}
 use Rattle.forcing.specs.Sine.{sine_entry}
 use Rattle.forcing.proofs.QuadrantLaws.{place_in, entry-sized}
-use Rattle.forcing.proofs.sines.sine.Goals as goal
+use Rattle.forcing.proofs.sines.Angle.sine.Goals as goal
 
 -- the entry's negative fits
 minus-fits : (a : ℤ) (p : Place) (x : ℤ) → Angle a → p ≡ place_of a → x ≡ sine_entry p.at → SFits w64 (neg_ℤ x)

@@ -1,7 +1,7 @@
 -- `stress` meets its contract: a calm apart, and k times w². Assumes nothing.
 use Rattle.std.proofs.Common.{rules}
 use Rattle.forcing.proofs.StressLaws.{calm-is, times}
-use Rattle.forcing.proofs.stresses.stress.Goals as goal
+use Rattle.forcing.proofs.winds.Wind.stress.Goals as goal
 
 pub returns-in-0 : goal.returns-in-0
 returns-in-0 c = search (rules, calm-is)
