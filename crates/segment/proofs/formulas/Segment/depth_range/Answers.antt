@@ -8,7 +8,7 @@ use Rattle.segment.specs.declared.Site.{Site}
 use Rattle.segment.specs.declared.Weather.{Weather}
 use Rattle.segment.specs.Segment.{depth_base, depth_of, SiteIn, WeatherIn, SetupIn}
 use Rattle.segment.proofs.SegmentFits.{depths-in, level_in, still-in, deficits-in, base-in, depth-top-in}
-use Rattle.segment.proofs.formulas.depth_range.Goals as goal
+use Rattle.segment.proofs.formulas.Segment.depth_range.Goals as goal
 
 -- each number on the way fits
 module _ {a : Site} {w : Weather} {s : Range} (i : SiteIn a) (j : WeatherIn w) (k : SetupIn s) where
@@ -50,22 +50,22 @@ module _ {a : Site} {w : Weather} {s : Range} (i : SiteIn a) (j : WeatherIn w) (
 
 pub overflow_add-top : goal.overflow_add-top
 overflow_add-top c =
-    let i = c.requires.0 in
-    let j = c.requires.1 in
-    let k = c.requires.2 in
+    let i = c.args.self.site_in in
+    let j = c.args.self.weather_in in
+    let k = c.requires in
     simp (to_z-of_z, df i j k, lf i j k, pf i j k, depths i j k, level i j k, still i j k, deficits i j k, base i j k, sl i j k) (low i j k)
 
 pub overflow_add-top-2 : goal.overflow_add-top-2
 overflow_add-top-2 c =
-    let i = c.requires.0 in
-    let j = c.requires.1 in
-    let k = c.requires.2 in
+    let i = c.args.self.site_in in
+    let j = c.args.self.weather_in in
+    let k = c.requires in
     simp (to_z-of_z, df i j k, lf i j k, pf i j k, depths i j k, level i j k, still i j k, deficits i j k, base i j k, sh i j k) (high i j k)
 
 pub returns : goal.returns
 unfolding depth_of
 returns c =
-    let i = c.requires.0 in
-    let j = c.requires.1 in
-    let k = c.requires.2 in
+    let i = c.args.self.site_in in
+    let j = c.args.self.weather_in in
+    let k = c.requires in
     simp (to_z-of_z, df i j k, lf i j k, pf i j k, depths i j k, level i j k, still i j k, deficits i j k, base i j k, sl i j k, sh i j k, low i j k, high i j k) at c.quotient.ensures

@@ -11,7 +11,7 @@ use Rattle.segment.specs.declared.Site.{Site}
 use Rattle.segment.specs.declared.Weather.{Weather}
 use Rattle.segment.specs.Segment.{drag, segment_force, flux_of, SiteIn, WeatherIn, RowIn}
 use Rattle.segment.proofs.SegmentFits.{drag-in, damped-in}
-use Rattle.segment.proofs.formulas.flux_range.Goals as goal
+use Rattle.segment.proofs.formulas.Segment.flux_range.Goals as goal
 
 -- each number on the way fits
 module _ {a : Site} {w : Weather} {v : Row} (i : SiteIn a) (j : WeatherIn w) (k : RowIn v) where
@@ -39,33 +39,33 @@ module _ {a : Site} {w : Weather} {v : Row} (i : SiteIn a) (j : WeatherIn w) (k 
 pub returns-then-first : goal.returns-then-first
 unfolding flux_of
 returns-then-first c =
-    let i = c.requires.0 in
-    let j = c.requires.1 in
-    let k = c.requires.2 in
+    let i = c.args.self.site_in in
+    let j = c.args.self.weather_in in
+    let k = c.requires.0 in
     rw (c.if-first.true, c.flux-old.ensures)
 
-pub overflow_mul-site : goal.overflow_mul-site
-overflow_mul-site c =
-    let i = c.requires.0 in
-    let j = c.requires.1 in
-    let k = c.requires.2 in
+pub overflow_mul-self : goal.overflow_mul-self
+overflow_mul-self c =
+    let i = c.args.self.site_in in
+    let j = c.args.self.weather_in in
+    let k = c.requires.0 in
     simp (to_z-of_z, sf i j k, ws i j k) (drags i j k)
 
 pub damped-requires : goal.damped-requires
 damped-requires c =
-    let i = c.requires.0 in
-    let j = c.requires.1 in
-    let k = c.requires.2 in
-    let e : c.force-force.result ≡ segment_force false c.args.weather c.args.row = simp (to_z-of_z, ws i j k, vc i j k, wc i j k) at c.force-force.ensures in
-    simp (to_z-of_z, sf i j k, ws i j k, drags i j k) (rw (e, c.flux-old.ensures) (damped-in i j k c.requires.3))
+    let i = c.args.self.site_in in
+    let j = c.args.self.weather_in in
+    let k = c.requires.0 in
+    let e : c.force-force.result ≡ segment_force false c.args.self.weather c.args.row = simp (to_z-of_z, ws i j k, vc i j k, wc i j k) at c.force-force.ensures in
+    simp (to_z-of_z, sf i j k, ws i j k, drags i j k) (rw (e, c.flux-old.ensures) (damped-in i j k c.requires.1))
 
 pub returns : goal.returns
 unfolding flux_of
 returns c =
-    let i = c.requires.0 in
-    let j = c.requires.1 in
-    let k = c.requires.2 in
-    let e : c.force-force.result ≡ segment_force false c.args.weather c.args.row = simp (to_z-of_z, ws i j k, vc i j k, wc i j k) at c.force-force.ensures in
+    let i = c.args.self.site_in in
+    let j = c.args.self.weather_in in
+    let k = c.requires.0 in
+    let e : c.force-force.result ≡ segment_force false c.args.self.weather c.args.row = simp (to_z-of_z, ws i j k, vc i j k, wc i j k) at c.force-force.ensures in
     rw c.if-first.false
     ((simp (to_z-of_z, sf i j k, ws i j k, drags i j k) at c.damped.ensures)
-    ∙ ap₂ (λ (y z : Range). damped_of (drag c.args.site c.args.weather) y z c.args.depth) c.flux-old.ensures e)
+    ∙ ap₂ (λ (y z : Range). damped_of (drag c.args.self.site c.args.self.weather) y z c.args.depth) c.flux-old.ensures e)

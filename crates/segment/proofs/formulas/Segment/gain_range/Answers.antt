@@ -11,7 +11,7 @@ use Rattle.records.specs.Limits.{water_ok, flux_ok}
 use Rattle.records.proofs.LimitLaws.{water-positive, water-low-in, water-high-in}
 use Rattle.segment.specs.Segment.{gain_top, gain_of}
 use Rattle.segment.proofs.SegmentFits.{ends-in, divisor-in, divisor-positive}
-use Rattle.segment.proofs.formulas.gain_range.Goals as goal
+use Rattle.segment.proofs.formulas.Segment.gain_range.Goals as goal
 
 -- each number on the way fits
 module _ (v : Range) (e : flux_ok v ≡ true) where
@@ -35,31 +35,31 @@ module _ (d : Range) (e : water_ok d ≡ true) where
   bh = sized-fits (le_z_yes tt) (divisor-in (water-high-in d e))
 
 pub gain_top-low-requires : goal.gain_top-low-requires
-gain_top-low-requires c = simp (to_z-of_z, vl c.args.flux c.requires.2) (c.requires.0, c.requires.1, (ends-in c.args.flux c.requires.2).low)
+gain_top-low-requires c = simp (to_z-of_z, vl c.args.flux c.requires.0) (ends-in c.args.flux c.requires.0).low
 
 pub gain_top-high-requires : goal.gain_top-high-requires
-gain_top-high-requires c = simp (to_z-of_z, vh c.args.flux c.requires.2) (c.requires.0, c.requires.1, (ends-in c.args.flux c.requires.2).high)
+gain_top-high-requires c = simp (to_z-of_z, vh c.args.flux c.requires.0) (ends-in c.args.flux c.requires.0).high
 
 pub overflow_mul-bottom : goal.overflow_mul-bottom
-overflow_mul-bottom c = simp (to_z-of_z, dl c.args.depth c.requires.3) (bl c.args.depth c.requires.3)
+overflow_mul-bottom c = simp (to_z-of_z, dl c.args.depth c.requires.1) (bl c.args.depth c.requires.1)
 
 pub overflow_mul-bottom-2 : goal.overflow_mul-bottom-2
-overflow_mul-bottom-2 c = simp (to_z-of_z, dh c.args.depth c.requires.3) (bh c.args.depth c.requires.3)
+overflow_mul-bottom-2 c = simp (to_z-of_z, dh c.args.depth c.requires.1) (bh c.args.depth c.requires.1)
 
 pub quotient-requires : goal.quotient-requires
 quotient-requires c =
     let d = c.args.depth in
-    let e = c.requires.3 in
+    let e = c.requires.1 in
     simp (to_z-of_z, dl d e, dh d e, bl d e, bh d e) (divisor-positive d (water-positive d e))
 
 pub returns : goal.returns
 unfolding gain_of
 returns c =
     let d = c.args.depth in
-    let e = c.requires.3 in
+    let e = c.requires.1 in
     let fl : FitsSigned w64 c.gain_top-low.result = sfits_of c.gain_top-low.type_inv in
     let fh : FitsSigned w64 c.gain_top-high.result = sfits_of c.gain_top-high.type_inv in
-    let low : c.gain_top-low.result ≡ gain_top c.args.site c.args.weather c.args.flux.low = simp (to_z-of_z, vl c.args.flux c.requires.2) at c.gain_top-low.ensures in
-    let high : c.gain_top-high.result ≡ gain_top c.args.site c.args.weather c.args.flux.high = simp (to_z-of_z, vh c.args.flux c.requires.2) at c.gain_top-high.ensures in
+    let low : c.gain_top-low.result ≡ gain_top c.args.self.site c.args.self.weather c.args.flux.low = simp (to_z-of_z, vl c.args.flux c.requires.0) at c.gain_top-low.ensures in
+    let high : c.gain_top-high.result ≡ gain_top c.args.self.site c.args.self.weather c.args.flux.high = simp (to_z-of_z, vh c.args.flux c.requires.0) at c.gain_top-high.ensures in
     (simp (to_z-of_z, dl d e, dh d e, bl d e, bh d e, fl, fh) at c.quotient.ensures)
     ∙ ap₂ (λ (x y : ℤ). quotient_of (record { low = x; high = y }) (record { low = pos 1000000000 *ℤ d.low; high = pos 1000000000 *ℤ d.high })) low high

@@ -8,7 +8,7 @@ use Rattle.segment.specs.declared.Site.{Site}
 use Rattle.segment.specs.declared.Weather.{Weather}
 use Rattle.segment.specs.Segment.{gain_top, SiteIn, WeatherIn}
 use Rattle.segment.proofs.SegmentFits.{turn_in, turned-in, wind-in, slope-in, gain-top-in}
-use Rattle.segment.proofs.formulas.gain_top.Goals as goal
+use Rattle.segment.proofs.formulas.Segment.gain_top.Goals as goal
 
 -- each number on the way fits
 module _ {a : Site} {w : Weather} {v : ℤ} (i : SiteIn a) (j : WeatherIn w) (k : Sized (pos 1000000) v) where
@@ -41,28 +41,28 @@ module _ {a : Site} {w : Weather} {v : ℤ} (i : SiteIn a) (j : WeatherIn w) (k 
 
 pub overflow_mul-result-2 : goal.overflow_mul-result-2
 overflow_mul-result-2 c =
-    let i = c.requires.0 in
-    let j = c.requires.1 in
-    let k = c.requires.2 in
+    let i = c.args.self.site_in in
+    let j = c.args.self.weather_in in
+    let k = c.requires in
     simp (to_z-of_z, sf i j k, turn i j k, vf i j k) (turned i j k)
 
 pub overflow_add-result : goal.overflow_add-result
 overflow_add-result c =
-    let i = c.requires.0 in
-    let j = c.requires.1 in
-    let k = c.requires.2 in
+    let i = c.args.self.site_in in
+    let j = c.args.self.weather_in in
+    let k = c.requires in
     simp (to_z-of_z, sf i j k, turn i j k, vf i j k, turned i j k, yf i j k, wind i j k) (slope i j k)
 
 pub overflow_mul-result-4 : goal.overflow_mul-result-4
 overflow_mul-result-4 c =
-    let i = c.requires.0 in
-    let j = c.requires.1 in
-    let k = c.requires.2 in
+    let i = c.args.self.site_in in
+    let j = c.args.self.weather_in in
+    let k = c.requires in
     simp (to_z-of_z, xf i j k, sf i j k, turn i j k, vf i j k, turned i j k, yf i j k, wind i j k, slope i j k) (top i j k)
 
 pub returns : goal.returns
 returns c =
-    let i = c.requires.0 in
-    let j = c.requires.1 in
-    let k = c.requires.2 in
+    let i = c.args.self.site_in in
+    let j = c.args.self.weather_in in
+    let k = c.requires in
     simp (to_z-of_z, xf i j k, sf i j k, turn i j k, vf i j k, turned i j k, yf i j k, wind i j k, slope i j k, top i j k)
