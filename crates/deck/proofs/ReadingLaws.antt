@@ -26,11 +26,11 @@ use Rattle.listing.specs.Lines.{values_line}
 use Rattle.listing.specs.Put.{written}
 use Rattle.reader.specs.Text.{more, close_of}
 use Rattle.reader.specs.Lines.{Outcome, read, refused, found, Leaves, names_at}
-use Rattle.reader.specs.Traverse.{head_names, point_names, Held, held, no_head, start, with_values, stored_at, with_point, line_at}
+use Rattle.reader.specs.Traverse.{head_names, point_names, Held, held, start, with_values, stored_at, with_point, line_at}
 use Rattle.reader.specs.Traverse.{counted_by, end_at, end_of, on_rest, rest_at, no_points, traverse_by, traverse_of}
-use Rattle.reader.specs.declared.traverse.Part.{Part}
-use Rattle.reader.specs.declared.traverse.Part.TheVariants.{Names, Values, Columns, Points}
 use Rattle.reader.specs.declared.traverse.Known.{Known}
+use Rattle.reader.specs.declared.traverse.Known.TheVariants.{Names, Values, Columns, Points}
+use Rattle.reader.specs.declared.traverse.TraverseRead.{TraverseRead}
 use Rattle.reader.proofs.Laws.{never}
 use Rattle.reader.proofs.StormLaws.{counts-in}
 use Rattle.reader.proofs.TraverseLaws.{rest_end, rest-line}
@@ -64,7 +64,7 @@ rest-read s h x at line a l e p = rest-line s h at line e ∙ ap (λ (o : Outcom
 -- ---- the points
 
 abbrev counting : Head → ℕ → Known
-counting h n = record { part = Points; head = h; count = n }
+counting h n = Points (record { head = h; count = n })
 
 abbrev station : ℕ → ℕ → Station
 station d h = record { distance = pos d; depth = pos h }
@@ -125,23 +125,23 @@ head-values : (h : Head) → values_line h.latitude h.friction h.initial ≡ lin
 unfolding values_line line_text close_of head_values
 head-values h = simp append_assoc
 
-abbrev knowing : Part → Head → Held
-knowing p h = held (record { part = p; head = h; count = 0 }) no_points
+abbrev knowing : Known → Held
+knowing k = held k no_points
 
 -- a line of names that stands there, and what comes behind it
-names-read : (s want t : List ℕ) (p : Part) (h : Head) (q : Part) (at line : ℕ) → From s at (want ++ t) → 0 < length want → line + 1 < 2 ^ 64
-    → line_at s (knowing p h) at line ≡ found (names_at s want at line) (knowing q h)
-    → rest_at s (knowing p h) at line ≡ rest_at s (knowing q h) (at + length want) (line + 1)
-names-read s want t p h q at line f e u g =
-    rest-read s (knowing p h) (knowing q h) at line (at + length want) (line + 1) (omega (arith, f.size, length-append want t))
+names-read : (s want t : List ℕ) (k j : Known) (at line : ℕ) → From s at (want ++ t) → 0 < length want → line + 1 < 2 ^ 64
+    → line_at s (knowing k) at line ≡ found (names_at s want at line) (knowing j)
+    → rest_at s (knowing k) at line ≡ rest_at s (knowing j) (at + length want) (line + 1)
+names-read s want t k j at line f e u g =
+    rest-read s (knowing k) (knowing j) at line (at + length want) (line + 1) (omega (arith, f.size, length-append want t))
     (g ∙ rw (names-are s want t at line f, more-one line u))
 
 -- the line of the given values
 values-read : (s t : List ℕ) (h : Head) (at line : ℕ) → From s at (line_text (head_values h) ++ t) → AllNine (head_values h) → line + 1 < 2 ^ 64
-    → rest_at s (knowing Values no_head) at line ≡ rest_at s (knowing Columns h) (at + length (line_text (head_values h))) (line + 1)
+    → rest_at s (knowing Values) at line ≡ rest_at s (knowing (Columns h)) (at + length (line_text (head_values h))) (line + 1)
 unfolding line_at with_values head_values
 values-read s t h at line f n u =
-    rest-read s (knowing Values no_head) (knowing Columns h) at line (at + length (line_text (head_values h))) (line + 1)
+    rest-read s (knowing Values) (knowing (Columns h)) at line (at + length (line_text (head_values h))) (line + 1)
     (line-within s t h.latitude (h.friction ∷ h.initial ∷ []) at f)
     (rw (line-spelt s t h.latitude (h.friction ∷ h.initial ∷ []) at line f n, more-one line u))
 
@@ -149,7 +149,7 @@ values-read s t h at line f n u =
 record BeforePoints (s : List ℕ) (h : Head) (t : List ℕ) : Type 0 where
   pub at : ℕ
   pub from : From s at t
-  pub rest : rest_at s (held start no_points) 0 0 ≡ rest_at s (knowing Points h) at 3
+  pub rest : rest_at s (held start no_points) 0 0 ≡ rest_at s (knowing (counting h 0)) at 3
 
 before-points : (s : List ℕ) (h : Head) (t : List ℕ) → From s 0 (head_names ++ (line_text (head_values h) ++ (point_names ++ t))) → AllNine (head_values h) → BeforePoints s h t
 unfolding line_at start
@@ -161,9 +161,9 @@ before-points s h t f n =
     record {
       at = a + length v + length point_names;
       from = from-past point_names t k;
-      rest = names-read s head_names (v ++ (point_names ++ t)) Names no_head Values 0 0 f (omega arith) (omega arith) refl
+      rest = names-read s head_names (v ++ (point_names ++ t)) Names Values 0 0 f (omega arith) (omega arith) refl
           ∙ values-read s (point_names ++ t) h a 1 g n (omega arith)
-          ∙ names-read s point_names t Columns h Points (a + length v) 2 k (omega arith) (omega arith) refl;
+          ∙ names-read s point_names t (Columns h) (counting h 0) (a + length v) 2 k (omega arith) (omega arith) refl;
     }
 
 -- the text in parts, from the front on
@@ -201,11 +201,11 @@ pub record TextRead (h : Head) (ds hs text : List ℕ) : Type 0 where
 points-room : station_count no_points ≡ 65
 points-room = wholes-times 2 65 (omega arith)
 
-module _ (s : List ℕ) (h : Head) (at : ℕ) (ds hs : List ℕ) (e : rest_at s (held start no_points) 0 0 ≡ rest_at s (knowing Points h) at 3)
+module _ (s : List ℕ) (h : Head) (at : ℕ) (ds hs : List ℕ) (e : rest_at s (held start no_points) 0 0 ≡ rest_at s (knowing (counting h 0)) at 3)
     (r : AfterPoints s h 0 no_points at 3 (length ds) ds hs) (some : 0 < length ds) where
-  answer-is : traverse_of s ≡ traverse_by (counted_by (station_count r.points) (counting h (length ds)) (length s) (3 + length ds)) r.points
+  answer-is : traverse_of s ≡ traverse_by (counted_by (station_count r.points) (record { head = h; count = length ds }) (length s) (3 + length ds)) r.points
   unfolding traverse_of end_at
-  answer-is = ap (λ (x : Leaves (Outcome Known)). traverse_by x.answer x.numbers) (e ∙ r.rest)
+  answer-is = ap (λ (x : Leaves (Outcome TraverseRead)). traverse_by x.answer x.numbers) (e ∙ r.rest)
 
   ends : TextRead h ds hs s
   unfolding counted_by

@@ -10,7 +10,6 @@ use lib.IntN.{ℤ}
 use Rattle.records.specs.Limits.{most_points}
 use Rattle.records.proofs.GroupLaws.{wholes-fit}
 use Rattle.records.specs.declared.Refusal.{Refusal}
-use Rattle.reader.specs.declared.traverse.Known.{Known}
 use Rattle.reader.specs.declared.traverse.TraverseRead.{TraverseRead}
 use Rattle.reader.specs.declared.traverse.Progress.{Progress}
 use Rattle.reader.specs.declared.traverse.Progress.TheVariants as progress
@@ -21,12 +20,12 @@ use Rattle.files.specs.declared.Stop.{Stop}
 use Rattle.files.specs.TraverseFile.{file_by, Reading, step_of, Loads, HasPoints}
 
 -- of what a step answered and left
-read_has : (x : Reading) (k : Known) → (step_of x).answer ≡ Ok (progress.Read k) → HasPoints (Ok (record { head = k.head; count = k.count })) (length (step_of x).numbers)
+read_has : (x : Reading) (t : TraverseRead) → (step_of x).answer ≡ Ok (progress.Read t) → HasPoints (Ok t) (length (step_of x).numbers)
 unfolding step_of
-read_has x k e =
+read_has x t e =
     let s = step_of x in
-    let has : HasTraverse k.count s.numbers = step-has-traverse (take x.have x.window) x.last x.held 0 x.line k e in
-    let n = counts-in most_points k.count has.counted in
+    let has : HasTraverse t.count s.numbers = step-has-traverse (take x.have x.window) x.last x.held 0 x.line t e in
+    let n = counts-in most_points t.count has.counted in
     (n.0, omega (arith, has.room, wholes-fit 2 (length s.numbers)), n.1)
 
 -- and so of what the call answers
@@ -36,6 +35,6 @@ loads-has opened window points r window' points' l =
     (subst (λ (p : List ℤ). HasPoints (file_by (step_of l.at).answer) (length p)) (sym l.points-left) (go (step_of l.at).answer refl))
   where
     go : (p : Result Progress Refusal) → (step_of l.at).answer ≡ p → HasPoints (file_by p) (length (step_of l.at).numbers)
-    go (Ok (progress.Read k)) e = read_has l.at k e
+    go (Ok (progress.Read t)) e = read_has l.at t e
     go (Ok (progress.More c k)) e = tt
     go (Err q) e = tt

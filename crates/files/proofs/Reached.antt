@@ -18,7 +18,7 @@ use Rattle.reader.specs.declared.traverse.TraverseRead.{TraverseRead}
 use Rattle.reader.specs.Lines.{Leaves, leaves}
 use Rattle.reader.specs.Traverse.{held, rest_at, read_left, traverse_left, traverse_step}
 use Rattle.reader.specs.Window.{carried_by, carried}
-use Rattle.reader.proofs.Ends.{Stands, traverse-stands}
+use Rattle.reader.proofs.Ends.{Stands, traverse-stands, Asks, traverse-asks}
 use Rattle.reader.proofs.Steps.{traverse-step-holds}
 use Rattle.files.specs.declared.Stop.{Stop}
 use Rattle.files.specs.declared.Stop.TheVariants.{Failed}
@@ -26,7 +26,6 @@ use Rattle.files.specs.Chain.{Chain, most_turns}
 use Rattle.files.specs.Filled.{HeldWindow, read_behind}
 use Rattle.files.specs.TraverseFile.{file_by, Reading, begun, step_of, asked_at, left_from, Follows, Reached, text_read, KeptWindow, Loads, Continues, Tells, FileTells}
 use Rattle.files.proofs.Walked.{never, Walked, walked_more}
-use Rattle.files.proofs.Asks.{Asks, traverse-asks}
 use Rattle.files.proofs.Ending.{Ending, ending-none, ending-more, ending-shows}
 
 -- ---- the loop
@@ -120,7 +119,7 @@ module _ (points : List ℤ) where
   left-held x h = go (step_of x).answer (traverse-stands (take x.have x.window) x.last (length (take x.have x.window)) (omega arith) x.held 0 x.line (omega arith))
     where
       go : (p : Result Progress Refusal) → Stands 0 (length (take x.have x.window)) p → asked_at p ≤ x.have
-      go (Ok (progress.Read k)) q = omega arith
+      go (Ok (progress.Read t)) q = omega arith
       go (Ok (progress.More c k)) q = omega (arith, q.1, length-take-le x.have x.window h)
       go (Err r) q = omega arith
 
@@ -159,6 +158,6 @@ file-tells opened window points r window' points' l e c =
   where
     go : (p : Result Progress Refusal) → carried_by (text_read l.earlier l.at ++ e) (reached-told points opened window l.earlier l.at l.reached).from p (step_of l.at).numbers ≡ traverse_left (text_read l.earlier l.at ++ e) points
         → Tells (file_by p) (text_read l.earlier l.at ++ e) points (step_of l.at).numbers
-    go (Ok (progress.Read k)) q = sym q
+    go (Ok (progress.Read t)) q = sym q
     go (Ok (progress.More c k)) q = tt
     go (Err r) q = sym q

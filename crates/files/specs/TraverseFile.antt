@@ -16,7 +16,7 @@ use Rattle.files.specs.Filled.{InFront, HeldWindow, read_behind}
 
 -- what a step's answer is for the file: where more of the text was needed and did not come, reading has failed
 abbrev pub file_by : Result Progress Refusal → Result TraverseRead Stop
-file_by (Ok (progress.Read k)) = Ok (record { head = k.head; count = k.count })
+file_by (Ok (progress.Read t)) = Ok t
 file_by (Ok (progress.More c k)) = Err Failed
 file_by (Err refusal) = Err (Refused refusal)
 
@@ -41,7 +41,7 @@ step_of x = traverse_step (take x.have x.window) x.last x.held 0 x.line
 -- where a step stopped that asked for more
 abbrev pub asked_at : Result Progress Refusal → ℕ
 asked_at (Ok (progress.More c k)) = c.at
-asked_at (Ok (progress.Read k)) = 0
+asked_at (Ok (progress.Read t)) = 0
 asked_at (Err refusal) = 0
 
 abbrev pub left_from : Reading → ℕ

@@ -4,7 +4,7 @@
 // many bytes it handed over, and what its callers make of that is proved. A read or a write that fails is told on standard error.
 #![tactic(auto)]
 
-ghost use Rattle.std.specs.Prelude.{◌≡◌, is_some, not, ℕ, ◌+◌, ◌-◌, ◌<◌, ◌≤◌, ◌^◌, length};
+ghost use Rattle.std.specs.Prelude.{◌≡◌, None, is_some, not, ℕ, ◌+◌, ◌-◌, ◌<◌, ◌≤◌, ◌^◌, length, take};
 ghost use Rattle.files.specs.Filled.{Refills, told, interrupted, Gives, after_read, Refilled, Flushes};
 ghost use Rattle.files.specs.TraverseFile.{Loads, LoadsSome};
 ghost use Rattle.files.specs.declared.Stop.TheVariants as stop;
@@ -57,11 +57,6 @@ fn told<T>(rt: &HostRuntime, name: &str, answer: io::Result<T>) -> Result<T, Fai
 
 // ---- windows
 
-// A file to be read; none where it could not be opened, which counts as empty text.
-pub fn open(rt: &HostRuntime, name: &str) -> Option<File> {
-    File::open(rt, name).ok()
-}
-
 // How a lent buffer stands: so many bytes of it hold text, and whether the text ends with them.
 #[derive(Clone, Copy, Debug, PartialEq, Eq)]
 pub struct Held {
@@ -77,6 +72,18 @@ impl Held {
         Held {
             have: 0,
             last: file.is_none(),
+        }
+    }
+
+    // What the buffer holds of the text.
+    pub fn window(self, buf: &[u8]) -> Window<'_>
+        requires { self.have ≤ length buf.now }
+        ensures bytes { result.bytes.now ≡ take self.have buf.now }
+        ensures last { result.last ≡ self.last }
+    {
+        Window {
+            bytes: &buf[..self.have],
+            last: self.last,
         }
     }
 }
@@ -97,34 +104,6 @@ fn interrupted(answer: &io::Result<usize>) -> bool
     }
 }
 
-// One read; a file that is not there has no bytes.
-fn read_once(file: &mut Option<File>, buf: &mut [u8]) -> io::Result<usize>
-    ensures { Gives result (length buf.old) }
-{
-    match file {
-        Some(file) => file.read(buf),
-        None => Ok(0),
-    }
-}
-
-// One read, made again where it was interrupted. An interruption at the last try counts as a failure.
-fn read_through(
-    rt: &HostRuntime,
-    name: &str,
-    file: &mut Option<File>,
-    buf: &mut [u8],
-) -> Result<usize, Failed>
-    ensures { Gives result (length buf.old) }
-{
-    for _ in 0..TRIES {
-        let answer = read_once(file, buf);
-        if !interrupted(&answer) {
-            return told(rt, name, answer);
-        }
-    }
-    told(rt, name, read_once(file, buf))
-}
-
 // How a window stands after a read, where `rest` bytes were left of it: a read of no bytes is the file's end.
 fn after_read(got: Result<usize, Failed>, rest: usize) -> Result<Held, Failed>
     requires { Gives got (2 ^ 64 - 1 - rest) }
@@ -137,23 +116,65 @@ fn after_read(got: Result<usize, Failed>, rest: usize) -> Result<Held, Failed>
     })
 }
 
-// The window again: what was left of it at its front, and more of the file behind that. What was left is less than the window, so that the
-// read asks for one byte or more, and a read of no bytes is the file's end.
-pub fn refill(
-    rt: &HostRuntime,
-    name: &str,
-    file: &mut Option<File>,
-    buf: &mut [u8],
-    at: usize,
-    have: usize,
-) -> Result<Held, Failed>
-    requires { Refills at have (length buf.old) }
-    ensures { Refilled result buf.old buf.new at have }
-{
-    let rest = have - at;
-    buf.copy_within(at..have, 0);
-    let got = read_through(rt, name, file, &mut buf[rest..]);
-    after_read(got, rest)
+// A text to be read: its name in the current folder, and its file, once that was opened. One that could not be opened counts as empty text.
+#[derive(Debug, Drop)]
+pub struct Source {
+    name: &'static str,
+    pub file: Option<File>,
+}
+
+impl Source {
+    // Not opened yet.
+    pub fn named(name: &'static str) -> Self
+        ensures { result.file ≡ None }
+    {
+        Source { name, file: None }
+    }
+
+    pub fn open(&mut self, rt: &HostRuntime) {
+        self.file = File::open(rt, self.name).ok();
+    }
+
+    // One read; a file that is not there has no bytes.
+    fn read_once(&mut self, buf: &mut [u8]) -> io::Result<usize>
+        ensures { Gives result (length buf.old) }
+    {
+        match &mut self.file {
+            Some(file) => file.read(buf),
+            None => Ok(0),
+        }
+    }
+
+    // One read, made again where it was interrupted. An interruption at the last try counts as a failure.
+    fn read_through(&mut self, rt: &HostRuntime, buf: &mut [u8]) -> Result<usize, Failed>
+        ensures { Gives result (length buf.old) }
+    {
+        for _ in 0..TRIES {
+            let answer = self.read_once(buf);
+            if !interrupted(&answer) {
+                return told(rt, self.name, answer);
+            }
+        }
+        told(rt, self.name, self.read_once(buf))
+    }
+
+    // The window again: what was left of it at its front, and more of the file behind that. What was left is less than the window, so that the
+    // read asks for one byte or more, and a read of no bytes is the file's end.
+    pub fn refill(
+        &mut self,
+        rt: &HostRuntime,
+        buf: &mut [u8],
+        at: usize,
+        have: usize,
+    ) -> Result<Held, Failed>
+        requires { Refills at have (length buf.old) }
+        ensures { Refilled result buf.old buf.new at have }
+    {
+        let rest = have - at;
+        buf.copy_within(at..have, 0);
+        let got = self.read_through(rt, &mut buf[rest..]);
+        after_read(got, rest)
+    }
 }
 
 // ---- the traverse
@@ -162,25 +183,21 @@ pub fn refill(
 // read.
 fn load_traverse(
     rt: &HostRuntime,
-    file: &mut Option<File>,
+    source: &mut Source,
     buf: &mut [u8],
     points: &mut [i64],
 ) -> Result<TraverseRead, Stop>
     requires { 33 ≤ length buf.old }
-    ensures { Loads (is_some file.old) buf.old points.old result buf.new points.new }
+    ensures { Loads (is_some source.old.file) buf.old points.old result buf.new points.new }
 {
     let mut known = Known::start();
     let mut line = 0;
-    let mut window = Held::before(file);
+    let mut held = Held::before(&source.file);
     for _ in 0..TURNS {
-        let text = Window {
-            bytes: &buf[..window.have],
-            last: window.last,
-        };
-        match known.step(Cursor { at: 0, line }, text, points)? {
-            Progress::Read(k) => return Ok(k.into()),
+        match known.step(Cursor { at: 0, line }, held.window(buf), points)? {
+            Progress::Read(traverse) => return Ok(traverse),
             Progress::More(c, k) => {
-                window = refill(rt, "traverse.txt", file, buf, c.at, window.have)?;
+                held = source.refill(rt, buf, c.at, held.have)?;
                 line = c.line;
                 known = k;
             }
@@ -198,8 +215,9 @@ pub fn read_traverse(
     requires { 33 ≤ length buf.old }
     ensures { LoadsSome buf.old points.old result buf.new points.new }
 {
-    let mut file = open(rt, "traverse.txt");
-    load_traverse(rt, &mut file, buf, points)
+    let mut source = Source::named("traverse.txt");
+    source.open(rt);
+    load_traverse(rt, &mut source, buf, points)
 }
 
 // ---- the output

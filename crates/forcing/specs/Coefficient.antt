@@ -9,7 +9,7 @@ use Rattle.std.specs.Prelude.{cond, ℤ, pos, ◌+ℤ◌, ◌-ℤ◌, ◌*ℤ◌
 use Rattle.std.specs.Int.Signed.{le_z}
 use Rattle.ranges.specs.Fraction.{Frac, ◌≈F◌, whole, ◌+F◌, ◌*F◌, ◌/F◌}
 use Rattle.ranges.specs.Series.{◌^F◌, ◌-F◌}
-use Rattle.forcing.specs.declared.coefficients.StressCoefficient.{StressCoefficient}
+use Rattle.forcing.specs.declared.winds.StressCoefficient.{StressCoefficient}
 
 abbrev pub K₁ : ℤ
 K₁ = pos 11

@@ -3,13 +3,13 @@
 // checked.
 #![tactic(auto)]
 
-mod coefficients;
 mod forces;
 mod sines;
 mod stresses;
 mod table;
+mod winds;
 
-pub use coefficients::{StressCoefficient, coefficient};
 pub use forces::force;
-pub use sines::{cosine, sine};
-pub use stresses::{PointStress, point_stress, stress};
+pub use sines::Angle;
+pub use stresses::{PointStress, point_stress};
+pub use winds::{StressCoefficient, Wind};

@@ -4,31 +4,47 @@ use mathlib.Core.Bool.{Bool, true, false, cond}
 use mathlib.Core.List.{List, [], ◌∷◌}
 use mathlib.Core.Logic.{◌⊎◌, inl, inr}
 use native.Mathlib.Omega.{arith}
-use Prim.Native.Nat.{ℕ, zero, suc, ◌+◌, ◌-◌, ◌≤◌, ◌<◌, zero-le}
-use lib.Dec.{le→leb}
+use Prim.Native.Nat.{ℕ, zero, suc, ◌+◌, ◌-◌, ◌*◌, ◌/◌, ◌%◌, ◌≤◌, ◌<◌, zero-le}
+use borrow.Author.Differences.{ints}
+use denote.Param.Members.{Mut}
+use denote.Ref.{Bor}
+use lib.Dec.{eqb, le→leb}
+use lib.ListN.{length, get_or, drop}
+use lib.Seq.{get_or-take, get_or-drop}
 use lib.IntN.{ℤ, pos, nat_abs, ◌+ℤ◌, ◌-ℤ◌, ◌*ℤ◌}
-use lib.Signed.{lt_z, ◌≤ℤ◌, ◌<ℤ◌, lt_z_yes, le_z_yes}
+use lib.Signed.{lt_z, le_z, ◌≤ℤ◌, ◌<ℤ◌, lt_z_yes, le_z_yes}
 use mir.Syntax.{w64}
 use mir.Val.{SFits, to_z, of_z}
+use Rattle.std.specs.Fn.{Called, ComputesKey}
+use Rattle.std.specs.List.Sorted.{IsPartitionedBy, IsPartitionPoint}
+use Rattle.std.specs.Simd.{first_chunks}
+use Rattle.std.proofs.lemmas.List.Sorted.{IsPartitionPoint-from_clause}
 use Rattle.ranges.specs.Bounds.{Sized}
 use Rattle.ranges.specs.Division.{floor_div}
 use Rattle.ranges.specs.Range.{lesser}
 use Rattle.ranges.specs.Root.{whole_root}
-use Rattle.ranges.proofs.Branches.{lt-true, lt-false}
+use Rattle.ranges.proofs.Branches.{lt-true, lt-false, le-true, le-false, le_yes}
 use Rattle.ranges.proofs.DivisionLaws.{floor-from, floor-to, floor-beside}
 use Rattle.ranges.proofs.Fits.{abs-most, sized-mul, sized-add, sized-sub, sized-fits}
-use Rattle.ranges.proofs.IntegerOrder.{le-or-gt, nn-mul, nn-sq, gap, lt-le}
+use Rattle.ranges.proofs.IntegerOrder.{le-or-gt, le-self, le_trans, nn-mul, nn-sq, gap, lt-le}
 use Rattle.ranges.proofs.LinearSolver.{zomega, says, ◌&◌}
-use Rattle.records.specs.Groups.{at}
+use Rattle.records.specs.Groups.{at, wholes, group_at}
 use Rattle.records.proofs.LimitLaws.{Between}
 use Rattle.hurricane.specs.declared.WindRow.{WindRow}
 use Rattle.hurricane.specs.Bounds.{ApartIn, DropIn, WindsIn, TableIn, BetweenRows}
-use Rattle.hurricane.specs.Groups.{wind_count, wind_row_at}
+use Rattle.hurricane.specs.Groups.{wind_count, wind_row_of, wind_row_at}
 use Rattle.hurricane.specs.Field.{distance_of, hundredths_of, straight, wind_from, wind_of}
 
 -- a number as the machine reads it
 abbrev pub read : ℤ → ℤ
 read z = to_z w64 (of_z w64 z)
+
+-- what a test of two numbers gives
+lt_yes : {a b : ℤ} → a <ℤ b → lt_z a b ≡ true
+lt_yes h = sym (omega (arith, ints))
+
+lt-no : {a b : ℤ} → b ≤ℤ a → lt_z a b ≡ false
+lt-no h = sym (omega (arith, ints))
 
 -- ---- the distance
 
@@ -85,16 +101,9 @@ module _ (radius r : ℤ) (low : pos 1 ≤ℤ radius) (high : radius ≤ℤ pos 
       go false e = refl
 
   module _ (p : pos 0 <ℤ r) where
-    above : lt_z (pos 0) r ≡ true
-    above = go (lt_z (pos 0) r) refl
-      where
-        go : (t : Bool) → lt_z (pos 0) r ≡ t → t ≡ true
-        go true e = refl
-        go false e = absurd (zomega (r ∷ []) (p & lt-false (pos 0) r e) (search says depth 20) (omega arith))
-
     pub hundredths-far : hundredths_of radius r ≡ lesser (floor_div (pos 100 *ℤ radius) r) (pos 1000)
     unfolding hundredths_of
-    hundredths-far = rw above
+    hundredths-far = rw (lt_yes p)
 
   -- a place of the table
   pub hundredths-place : nat_abs (hundredths_of radius r) < 1001
@@ -223,7 +232,7 @@ module _ (winds : List ℤ) (v : WindsIn winds) (r : ℤ) where
   row-wind : (i : ℕ) → i < wind_count winds → Between (pos 0) (pos 2000) (wind_row_at winds i).wind
   row-wind i h = record { from = (v.rows i h).wind-low; to = (v.rows i h).wind-high }
 
-  pub rows-between : (i : ℕ) → i + 1 < wind_count winds → (wind_row_at winds i).radius ≤ℤ r → r <ℤ (wind_row_at winds (i + 1)).radius → BetweenRows (wind_row_at winds i) (wind_row_at winds (i + 1)) r
+  rows-between : (i : ℕ) → i + 1 < wind_count winds → (wind_row_at winds i).radius ≤ℤ r → r <ℤ (wind_row_at winds (i + 1)).radius → BetweenRows (wind_row_at winds i) (wind_row_at winds (i + 1)) r
   rows-between i h f t = record { first = v.rows i (omega arith); second = v.rows (i + 1) h; from = f; to = t }
 
   from_in : (k i : ℕ) → i + k < wind_count winds → (wind_row_at winds i).radius ≤ℤ r → Between (pos 0) (pos 2000) (wind_from winds r k i)
@@ -244,40 +253,120 @@ module _ (winds : List ℤ) (v : WindsIn winds) (r : ℤ) where
       go true e = row-wind 0 v.some
       go false e = let s = v.some in from_in (wind_count winds - 1) 0 (omega arith) (lt-false r (wind_row_at winds 0).radius e)
 
--- what the loop keeps: row i is not beyond r, and the list that is left gives what the whole gives
-pub record WindInv (winds : List ℤ) (r : ℤ) (last i : ℕ) : Type 0 where
-  pub reach : i ≤ last
-  pub from : (wind_row_at winds i).radius ≤ℤ r
-  pub rest : wind_from winds r (last - i) i ≡ wind_of winds r
+-- ---- the wind by the library's search of the rows, each two numbers
 
-module _ (winds : List ℤ) (r : ℤ) (last : ℕ) where
-  pub inside-first : lt_z r (wind_row_at winds 0).radius ≡ true → (wind_row_at winds 0).wind ≡ wind_of winds r
+-- number k of row i
+chunk-at : (n : ℕ) (l d : List ℤ) (i k : ℕ) → i < n → k < 2 → at (get_or (first_chunks 2 n l) i d) k ≡ at l (2 * i + k)
+chunk-at zero l d i k h m = absurd (omega arith)
+chunk-at (suc n) l d zero k h m = let z : 2 * 0 + k ≡ k = omega arith in rw z (get_or-take 2 l k (pos 0) m)
+chunk-at (suc n) l d (suc i) k h m =
+    let e : 2 * suc i + k ≡ 2 + (2 * i + k) = omega arith in
+    rw e (chunk-at n (drop 2 l) d i k (omega arith) m ∙ get_or-drop 2 l (2 * i + k) (pos 0))
+
+abbrev pub row_of : List (List ℤ) → ℕ → WindRow
+row_of rows i = wind_row_of (at (get_or rows i []))
+
+-- whether a row is not beyond r, as the search asks
+abbrev pub within : ℤ → List ℤ → Bool
+within r row = le_z (wind_row_of (at row)).radius r
+
+module _ {winds : List ℤ} (v : WindsIn winds) where
+  -- no number is left over
+  rows-length : length winds / 2 ≡ wind_count winds
+  unfolding wholes
+  rows-length = by (eqb (length winds % 2) 0) v.some
+    where
+      by : (t : Bool) → 1 ≤ cond t (length winds / 2) 0 → length winds / 2 ≡ cond t (length winds / 2) 0
+      by true h = refl
+      by false h = absurd (omega arith)
+
+  pub rows-some : 1 ≤ length winds / 2
+  rows-some = let l = rows-length in let s = v.some in omega arith
+
+  -- the radii rise from a row to any later one
+  radii-rise : (k i : ℕ) → i + k < wind_count winds → (wind_row_at winds i).radius ≤ℤ (wind_row_at winds (i + k)).radius
+  radii-rise zero i h = let z : i + 0 ≡ i = omega arith in rw z (le-self _)
+  radii-rise (suc k) i h = let z : i + suc k ≡ i + 1 + k = omega arith in rw z (le_trans (lt-le (v.rising i (omega arith))) (radii-rise k (i + 1) (omega arith)))
+
+-- what the search finds: the rows before row n are not beyond r, and row n is, if there is one
+pub record Found (winds : List ℤ) (rows : List (List ℤ)) (r : ℤ) (n : ℕ) : Type 0 where
+  pub winds_in : WindsIn winds
+  pub long : length rows ≡ wind_count winds
+  pub row : (i : ℕ) → i < length rows → row_of rows i ≡ wind_row_at winds i
+  pub reach : n ≤ length rows
+  pub from : (i : ℕ) → i < n → (wind_row_at winds i).radius ≤ℤ r
+  pub to : n < length rows → r <ℤ (wind_row_at winds n).radius
+
+-- from what the library ensures
+module _ {winds : List ℤ} {rows : List (List ℤ)} (v : WindsIn winds) (is : rows ≡ first_chunks 2 (length winds / 2) winds) (long : length rows ≡ length winds / 2) (r : ℤ) where
+  row-is : (i : ℕ) (d : List ℤ) → i < length rows → wind_row_of (at (get_or rows i d)) ≡ wind_row_at winds i
+  unfolding group_at
+  row-is i d h =
+      let z : 2 * i + 0 ≡ 2 * i = omega arith in
+      rw (is, chunk-at (length winds / 2) winds d i 0 (omega arith) (omega arith), chunk-at (length winds / 2) winds d i 1 (omega arith) (omega arith), z) refl
+
+  within-is : (i : ℕ) (d : List ℤ) → i < length rows → within r (get_or rows i d) ≡ le_z (wind_row_at winds i).radius r
+  within-is i d h = ap (λ (w : WindRow). le_z w.radius r) (row-is i d h)
+
+  parted : IsPartitionedBy (within r) rows
+  parted i j d h l e =
+      let z : i + (j - i) ≡ j = omega arith in
+      let n = rows-length v in
+      let up = radii-rise v (j - i) i (omega arith) in
+      let to = le-true (wind_row_at winds j).radius r (sym (within-is j d l) ∙ e) in
+      within-is i d (omega arith) ∙ le_yes (le_trans (rw z at up) to)
+
+  pub rows-found : {F : Type 0} {g : Mut F (Bor (List ℤ) × Unit {0}) Bool} {f : F} {n : ℕ} → n ≤ length rows
+      → ((q : List ℤ → Bool) → ComputesKey g q f → IsPartitionedBy q rows → IsPartitionPoint (λ y. q y ≡ true) (λ y. q y ≡ false) rows n)
+      → ((a : Bor (List ℤ) × Unit {0}) (b : Bool) (f' : F) → Called g f a b f' → (b ≡ within r a.0.now) × (f' ≡ f)) → Found winds rows r n
+  rows-found {n = n} h clause asks =
+      let p = IsPartitionPoint-from_clause (within r) rows n clause parted asks in
+      record {
+        winds_in = v;
+        long = long ∙ rows-length v;
+        row = λ i m. row-is i [] m;
+        reach = h;
+        from = λ i m. le-true (wind_row_at winds i).radius r (sym (within-is i [] (omega arith)) ∙ p.0 i [] (omega arith) m);
+        to = λ m. le-false (wind_row_at winds n).radius r (sym (within-is n [] m) ∙ p.1 n [] (omega arith) m);
+      }
+
+module _ {winds : List ℤ} {rows : List (List ℤ)} {r : ℤ} {n : ℕ} (f : Found winds rows r n) where
+  pub wind-first : n ≡ 0 → (row_of rows 0).wind ≡ wind_of winds r
   unfolding wind_of
-  inside-first e = rw e
+  wind-first e =
+      let some : 1 ≤ length rows = omega (arith, f.long, f.winds_in.some) in
+      let to = f.to in
+      let beyond = rw e at to in
+      ap (λ (w : WindRow). w.wind) (f.row 0 some) ∙ rw (lt_yes (beyond some))
 
-  pub wind-start : last ≡ wind_count winds - 1 → lt_z r (wind_row_at winds 0).radius ≡ false → WindInv winds r last 0
-  unfolding wind_of
-  wind-start q e = record {
-    reach = omega arith;
-    from = lt-false r (wind_row_at winds 0).radius e;
-    rest = let z : last - 0 ≡ wind_count winds - 1 = omega arith in rw (z, e);
-  }
+  -- from a row before row n on, the list gives what the whole gives
+  wind-on : (i : ℕ) → i < n → wind_from winds r (wind_count winds - suc i) i ≡ wind_of winds r
+  unfolding wind_of wind_from
+  wind-on zero h = rw (lt-no (f.from 0 h))
+  wind-on (suc i) h =
+      let z : wind_count winds - suc i ≡ suc (wind_count winds - suc (suc i)) = omega (arith, f.long, f.reach) in
+      let e : i + 1 ≡ suc i = omega arith in
+      let before = wind-on i (omega arith) in
+      rw (z, e, lt-no (f.from (suc i) h)) at before
 
-  module _ (i : ℕ) (v : WindInv winds r last i) where
-    one_more : i < last → last - i ≡ suc (last - (i + 1))
-    one_more h = omega arith
-
-    pub wind-found : i < last → lt_z r (wind_row_at winds (i + 1)).radius ≡ true → straight (wind_row_at winds i) (wind_row_at winds (i + 1)) r ≡ wind_of winds r
+  module _ (some : 1 ≤ n) where
+    pub wind-last : n ≡ length rows → (row_of rows (n - 1)).wind ≡ wind_of winds r
     unfolding wind_from
-    wind-found h e = rw (one_more h, e) at v.rest
+    wind-last e =
+        let z : wind_count winds - suc (n - 1) ≡ 0 = omega (arith, f.long) in
+        let on = wind-on (n - 1) (omega arith) in
+        ap (λ (w : WindRow). w.wind) (f.row (n - 1) (omega arith)) ∙ (rw z at on)
 
-    pub wind-on : i < last → lt_z r (wind_row_at winds (i + 1)).radius ≡ false → WindInv winds r last (i + 1)
-    unfolding wind_from
-    wind-on h e = record { reach = omega arith; from = lt-false r (wind_row_at winds (i + 1)).radius e; rest = rw (one_more h, e) at v.rest }
+    module _ (h : n < length rows) where
+      pub rows-around : BetweenRows (row_of rows (n - 1)) (row_of rows n) r
+      rows-around =
+          let l = f.long in
+          rw (f.row (n - 1) (omega arith), f.row n h) (record { first = f.winds_in.rows (n - 1) (omega arith); second = f.winds_in.rows n (omega arith); from = f.from (n - 1) (omega arith); to = f.to h })
 
-    pub wind-beyond : last ≤ i → (wind_row_at winds last).wind ≡ wind_of winds r
-    unfolding wind_from
-    wind-beyond h =
-        let z : last - i ≡ 0 = omega arith in
-        let q : i ≡ last = omega (arith, v.reach) in
-        ap (λ (j : ℕ). (wind_row_at winds j).wind) (sym q) ∙ (rw z at v.rest)
+      pub wind-found : straight (row_of rows (n - 1)) (row_of rows n) r ≡ wind_of winds r
+      unfolding wind_from
+      wind-found =
+          let z : wind_count winds - suc (n - 1) ≡ suc (wind_count winds - suc n) = omega (arith, f.long) in
+          let e : n - 1 + 1 ≡ n = omega arith in
+          let on = wind-on (n - 1) (omega arith) in
+          rw (f.row (n - 1) (omega arith), f.row n h) (rw (z, e, lt_yes (f.to h)) at on)

@@ -1,5 +1,6 @@
 -- The root of the definitions of `hurricane`: a storm record from a hurricane's few numbers, document 02's Q-1.
 pub mod Groups
+pub mod GroupsLaws
 pub mod Limits
 pub mod Factor
 pub mod Field

@@ -8,7 +8,7 @@ ghost use Rattle.hurricane.specs.Field.{distance_of, hundredths_of, deficit_of, 
 use super::{Hurricane, PlanePoint, WindRow};
 use ranges::{floor_div, whole_root};
 use records::Point;
-use records::groups::{count, group_at};
+use records::groups::Group;
 use records::limits::{CALM_ANGLE, is_calm};
 
 // The scale of the table.
@@ -63,7 +63,7 @@ pub fn angle_for(wind: i64, angle: i64) -> i64
 }
 
 // A hurricane's field: the table of factors, the hurricane and its winds, each within its limits.
-#[derive(Clone, Copy)]
+#[derive(Clone, Copy, Debug, PartialEq, Eq)]
 pub struct Field<'a> {
     pub table: &'a [i64],
     pub hurricane: Hurricane,
@@ -84,23 +84,16 @@ impl Field<'_> {
         floor_div((edge - central) * (WHOLE - factor), WHOLE)
     }
 
-    // The wind at distance r by the list.
+    // The wind at distance r by the list, of whose rows n have a radius of at most r.
     pub fn wind_at(&self, r: i64) -> i64
         ensures { result ≡ wind_of self.now.winds.now r }
     {
-        let winds = self.winds;
-        let last = count::<WindRow>(winds) - 1;
-        let first = group_at::<WindRow>(winds, 0);
-        if r < first.radius {
-            return first.wind;
+        let rows = self.winds.as_chunks::<{ WindRow::NUMBERS }>().0;
+        match rows.partition_point(|row| WindRow::read(row).radius <= r) {
+            0 => WindRow::read(&rows[0]).wind,
+            n if n == rows.len() => WindRow::read(&rows[n - 1]).wind,
+            n => wind_between(WindRow::read(&rows[n - 1]), WindRow::read(&rows[n]), r),
         }
-        for i in 0..last {
-            let next = group_at::<WindRow>(winds, i + 1);
-            if r < next.radius {
-                return wind_between(group_at(winds, i), next, r);
-            }
-        }
-        group_at::<WindRow>(winds, last).wind
     }
 
     // What the record has at a point.

@@ -1,7 +1,6 @@
 // One row of the list of winds, one point of the plane: how each is read from a slice of numbers and written to one.
-ghost use Rattle.std.proofs.Common.{rules};
-ghost use Rattle.std.specs.Prelude.{refl};
 ghost use Rattle.hurricane.specs.Groups.{wind_row_of, of_wind_row, plane_point_of, of_plane_point};
+ghost use Rattle.hurricane.specs.GroupsLaws.{wind_row-laws, plane_point-laws};
 
 use super::{PlanePoint, WindRow};
 use records::groups::Group;
@@ -15,13 +14,7 @@ impl Group for WindRow {
 
     ghost numbers = { of_wind_row };
 
-    ghost some = { Prim.search rules };
-
-    ghost near = { λ f g h. Prim.rw (h 0 (Prim.search rules), h 1 (Prim.search rules)) refl };
-
-    ghost back = { λ x. refl };
-
-    ghost long = { λ x. refl };
+    ghost laws = { wind_row-laws };
 
     fn read(list: &[i64]) -> Self {
         WindRow {
@@ -44,13 +37,7 @@ impl Group for PlanePoint {
 
     ghost numbers = { of_plane_point };
 
-    ghost some = { Prim.search rules };
-
-    ghost near = { λ f g h. Prim.rw (h 0 (Prim.search rules), h 1 (Prim.search rules), h 2 (Prim.search rules)) refl };
-
-    ghost back = { λ x. refl };
-
-    ghost long = { λ x. refl };
+    ghost laws = { plane_point-laws };
 
     fn read(list: &[i64]) -> Self {
         PlanePoint {

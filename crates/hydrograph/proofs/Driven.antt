@@ -10,7 +10,7 @@ use lib.IntN.{ℤ}
 use Rattle.records.specs.Limits.{most_points}
 use Rattle.records.specs.Shapes.{Traverse, count}
 use Rattle.listing.specs.Lines.{names_line}
-use Rattle.reader.specs.declared.traverse.Known.{Known}
+use Rattle.reader.specs.declared.traverse.TraverseRead.{TraverseRead}
 use Rattle.reader.specs.Lines.{Outcome, read, refused, holds}
 use Rattle.reader.specs.Storm.{storm_of, longest_record}
 use Rattle.reader.specs.Traverse.{held, start, no_points, rest_at, traverse_read, traverse_left, traverse_by, traverse_of}
@@ -114,11 +114,11 @@ module _ (s : List ℕ) (cuts : List Cut) where
   by-opening t opened st = said-before names_line (storm-tells s t cuts st (fresh_rows t))
   by-opening t (not_opened number place) st = all_said _
 
-  by-traverse : (x : Outcome Known) (points : List ℤ) →
+  by-traverse : (x : Outcome TraverseRead) (points : List ℤ) →
       Drives (length s + 1 < enough longest_record cuts) (after_whole (traverse_read x) points s cuts) (after_traverse (traverse_by x points) s)
   unfolding traverse_read begin_of
-  by-traverse (read k at line) points =
-      let t = read_traverse (record { head = k.head; count = k.count }) points in
+  by-traverse (read x at line) points =
+      let t = read_traverse x points in
       by-opening t (open_of most_points t).answer (open_of most_points t).state
   by-traverse (refused q) points = all_said _
 

@@ -21,7 +21,6 @@ use Rattle.march.specs.Demand3.{fresh_rows}
 use Rattle.hydrograph.specs.declared.Turn.{Turn}
 use Rattle.hydrograph.specs.declared.Turn.TheVariants as turn
 use Rattle.hydrograph.specs.declared.Run.{Run}
-use Rattle.hydrograph.specs.declared.Turned.{Turned}
 use Rattle.hydrograph.specs.Listing.{refusal_line, taken_by, storm_lines, listing_of}
 
 -- ---- one turn, without a buffer. The cursor stands at a place of the window, with so many lines before it
@@ -122,8 +121,8 @@ pub record LeftTurn : Type 0 where
   pub rows : List ℤ
   pub out : List ℕ
 
-abbrev pub left_turn : Turned → List ℤ → List ℤ → List ℕ → LeftTurn
-left_turn x numbers rows out = record { turn = x.turn; run = x.run; numbers = numbers; rows = rows; out = out }
+abbrev pub left_turn : Turn → Run → List ℤ → List ℤ → List ℕ → LeftTurn
+left_turn turn run numbers rows out = record { turn = turn; run = run; numbers = numbers; rows = rows; out = out }
 
 abbrev pub left_with : Turn → ℕ → ℕ → State → List ℤ → List ℤ → List ℕ → LeftTurn
 left_with turn at line st numbers rows out = record { turn = turn; run = record { cursor = record { at = at; line = line }; state = st }; numbers = numbers; rows = rows; out = out }
@@ -136,7 +135,7 @@ printed (says bytes at line st rows') run numbers rows out used = left_with (tur
 printed (ends bytes) run numbers rows out used = record { turn = turn.End (used + length bytes); run = run; numbers = numbers; rows = rows; out = written bytes used out }
 printed quiet run numbers rows out used = record { turn = turn.End used; run = run; numbers = numbers; rows = rows; out = out }
 
--- a turn: `numbers`, `rows` and `out` are as lent
+-- a turn: `run`, `numbers`, `rows` and `out` are as lent
 unfoldable pub turn_left : Heard → Run → List ℤ → List ℤ → List ℕ → ℕ → LeftTurn
 turn_left heard run numbers rows out used =
     cond (leb (used + line_room) (length out))

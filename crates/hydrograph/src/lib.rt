@@ -1,11 +1,11 @@
 // The listing of a run, turn by turn: a window of `storm.txt` in, a line of the hydrograph out. Everything that decides what is printed
-// stands here and below; a program above only moves bytes. The traverse's points, the record that is read and the rows are numbers that the
-// caller lends.
+// stands here and below; a program above only moves bytes. The run, the traverse's points, the record that is read and the rows are lent by the
+// caller.
 #![tactic(auto)]
 
 ghost use Rattle.std.specs.Prelude.{◌≡◌, [], ◌+◌, ◌≤◌, length, leb};
 ghost use Rattle.records.specs.Shapes.{traverse_of, count};
-ghost use Rattle.listing.specs.Lines.{line_text, names_line, record_line};
+ghost use Rattle.listing.specs.Lines.{line_text};
 ghost use Rattle.listing.specs.Put.{written};
 ghost use Rattle.hydrograph.specs.Listing.{refusal_line};
 ghost use Rattle.reader.specs.Storm.{record_size, record_in};
@@ -15,12 +15,11 @@ ghost use Rattle.hydrograph.specs.Turns.{taken_said, start_turn, record_heard, t
 use listing::Line;
 use listing::decimals::has_room;
 use march::State;
-use ranges::Range;
 use reader::{Cursor, Halt, Window};
 use records::groups::{Group, count, group_at};
 use records::{Closing, Point, Refusal, Station, StormRecord, Traverse};
 
-// What is carried from turn to turn beside the lent numbers: the cursor in the window, and the state.
+// What is carried from turn to turn, lent beside the numbers: the cursor in the window, and the state.
 #[derive(Clone, Copy, Debug, PartialEq, Eq)]
 pub struct Run {
     pub cursor: Cursor,
@@ -35,13 +34,6 @@ pub enum Turn {
     Line(usize),
     End(usize),
     Full,
-}
-
-// What a turn did, and the run after it.
-#[derive(Clone, Copy, Debug, PartialEq, Eq)]
-pub struct Turned {
-    pub turn: Turn,
-    pub run: Run,
 }
 
 // Room that any line of the listing has: none takes more than 63 bytes, and the definitions ask for 66 (`line_room`).
@@ -75,114 +67,80 @@ pub fn line_of(refusal: Refusal) -> Line
     }
 }
 
-// The names line of the listing.
-fn names(run: Run, out: &mut [u8], used: usize) -> Turned
-    requires { used + line_room ≤ length out.old }
-    ensures value { result ≡ record { turn = turn.Line (used + length names_line); run = run } }
-    ensures out_after { out.new ≡ written names_line used out.old }
-{
-    Turned {
-        turn: Turn::Line(put_line(Line::Names, out, used)),
-        run,
-    }
-}
-
 // A refusal is the last line.
-fn refuse(run: Run, out: &mut [u8], used: usize, refusal: Refusal) -> Turned
+fn refuse(refusal: Refusal, out: &mut [u8], used: usize) -> Turn
     requires { used + line_room ≤ length out.old }
-    ensures value { result ≡ record { turn = turn.End (used + length (refusal_line refusal)); run = run } }
+    ensures value { result ≡ turn.End (used + length (refusal_line refusal)) }
     ensures out_after { out.new ≡ written (refusal_line refusal) used out.old }
 {
-    Turned {
-        turn: Turn::End(put_line(line_of(refusal), out, used)),
-        run,
-    }
-}
-
-// A record's line, its elapsed seconds those of the later run, with which it goes on.
-fn accept(later: Run, out: &mut [u8], used: usize, height: Range) -> Turned
-    requires { used + line_room ≤ length out.old }
-    ensures value { result ≡ record { turn = turn.Line (used + length (record_line later.state.elapsed height.low height.high)); run = later } }
-    ensures out_after { out.new ≡ written (record_line later.state.elapsed height.low height.high) used out.old }
-{
-    let line = Line::Record {
-        elapsed: later.state.elapsed,
-        low: height.low,
-        high: height.high,
-    };
-    Turned {
-        turn: Turn::Line(put_line(line, out, used)),
-        run: later,
-    }
+    Turn::End(put_line(line_of(refusal), out, used))
 }
 
 // The record that was read into the first of the numbers, up to the cursor c: its line, or its refusal. No setup place is lent: Level B.
 fn taken(
     traverse: Traverse,
     numbers: &[i64],
-    run: Run,
+    run: &mut Run,
     c: Cursor,
     rows: &mut [i64],
     out: &mut [u8],
     used: usize,
-) -> Turned
+) -> Turn
     requires { (used + line_room ≤ length out.old) × (record_size (count (traverse_of traverse)) ≤ length numbers.now) }
-    ensures { left_turn result numbers.now rows.new out.new ≡ printed (taken_said (traverse_of traverse.entry) (record_in (count (traverse_of traverse.entry)) numbers.now) c.at c.line run.state rows.old) run numbers.now rows.old out.old used }
+    ensures { left_turn result run.new numbers.now rows.new out.new ≡ printed (taken_said (traverse_of traverse.entry) (record_in (count (traverse_of traverse.entry)) numbers.now) c.at c.line run.old.state rows.old) run.old numbers.now rows.old out.old used }
 {
     let end = Closing::NUMBERS + Point::NUMBERS * count::<Station>(traverse.points);
     let storm = StormRecord {
         closing: group_at(numbers, 0),
         points: &numbers[Closing::NUMBERS..end],
     };
-    let mut state = run.state;
-    match march::take_record(traverse, storm, &mut state, rows, &mut []) {
-        Ok(height) => accept(Run { cursor: c, state }, out, used, height),
-        Err(refusal) => refuse(run, out, used, refusal),
+    match march::take_record(traverse, storm, &mut run.state, rows, &mut []) {
+        Ok(height) => {
+            run.cursor = c;
+            let line = Line::Record {
+                elapsed: run.state.elapsed,
+                low: height.low,
+                high: height.high,
+            };
+            Turn::Line(put_line(line, out, used))
+        }
+        Err(refusal) => refuse(refusal, out, used),
     }
 }
 
 // The names line of the storm, which prints nothing.
-fn start_turn(run: Run, window: Window, out: &mut [u8], used: usize) -> Turned
+fn start_turn(run: &mut Run, window: Window, out: &mut [u8], used: usize) -> Turn
     requires { used + line_room ≤ length out.old }
-    ensures { left_turn result [] [] out.new ≡ printed (start_turn window.entry.bytes.now window.entry.last) run [] [] out.old used }
+    ensures { left_turn result run.new [] [] out.new ≡ printed (start_turn window.entry.bytes.now window.entry.last) run.old [] [] out.old used }
 {
     match reader::storm_start_step(window) {
-        Err(Halt::More) => Turned {
-            turn: Turn::More,
-            run,
-        },
-        Err(Halt::Refused(refusal)) => refuse(run, out, used, refusal),
-        Ok(cursor) => Turned {
-            turn: Turn::Line(used),
-            run: Run { cursor, ..run },
-        },
+        Err(Halt::More) => Turn::More,
+        Err(Halt::Refused(refusal)) => refuse(refusal, out, used),
+        Ok(cursor) => {
+            run.cursor = cursor;
+            Turn::Line(used)
+        }
     }
 }
 
 // The next record of the storm.
 fn record_turn(
     traverse: Traverse,
-    run: Run,
+    run: &mut Run,
     window: Window,
     numbers: &mut [i64],
     rows: &mut [i64],
     out: &mut [u8],
     used: usize,
-) -> Turned
+) -> Turn
     requires { used + line_room ≤ length out.old }
-    ensures { left_turn result numbers.new rows.new out.new ≡ printed (record_heard (traverse_of traverse.entry) window.entry.bytes.now window.entry.last run.cursor.at run.cursor.line run.state rows.old numbers.old).said run (record_heard (traverse_of traverse.entry) window.entry.bytes.now window.entry.last run.cursor.at run.cursor.line run.state rows.old numbers.old).numbers rows.old out.old used }
+    ensures { left_turn result run.new numbers.new rows.new out.new ≡ printed (record_heard (traverse_of traverse.entry) window.entry.bytes.now window.entry.last run.old.cursor.at run.old.cursor.line run.old.state rows.old numbers.old).said run.old (record_heard (traverse_of traverse.entry) window.entry.bytes.now window.entry.last run.old.cursor.at run.old.cursor.line run.old.state rows.old numbers.old).numbers rows.old out.old used }
 {
     let n = count::<Station>(traverse.points);
     match run.cursor.record_step(window, n, numbers) {
-        Err(Halt::More) => Turned {
-            turn: Turn::More,
-            run,
-        },
-        Err(Halt::Refused(refusal)) => refuse(run, out, used, refusal),
-        Ok(None) => Turned {
-            turn: Turn::End(used),
-            run,
-        },
+        Err(Halt::More) => Turn::More,
+        Err(Halt::Refused(refusal)) => refuse(refusal, out, used),
+        Ok(None) => Turn::End(used),
         Ok(Some(c)) => taken(traverse, numbers, run, c, rows, out, used),
     }
 }
@@ -192,20 +150,17 @@ fn record_turn(
 // whatever.
 pub fn storm_turn(
     traverse: Traverse,
-    run: Run,
+    run: &mut Run,
     window: Window,
     numbers: &mut [i64],
     rows: &mut [i64],
     out: &mut [u8],
     used: usize,
-) -> Turned
-    ensures { left_turn result numbers.new rows.new out.new ≡ turn_left (turn_heard (traverse_of traverse.entry) window.entry.bytes.now window.entry.last run.cursor.at run.cursor.line run.state rows.old numbers.old) run numbers.old rows.old out.old used }
+) -> Turn
+    ensures { left_turn result run.new numbers.new rows.new out.new ≡ turn_left (turn_heard (traverse_of traverse.entry) window.entry.bytes.now window.entry.last run.old.cursor.at run.old.cursor.line run.old.state rows.old numbers.old) run.old numbers.old rows.old out.old used }
 {
     if !has_line_room(out.len(), used) {
-        return Turned {
-            turn: Turn::Full,
-            run,
-        };
+        return Turn::Full;
     }
     if run.cursor.line == 0 {
         return start_turn(run, window, out, used);
@@ -213,22 +168,19 @@ pub fn storm_turn(
     record_turn(traverse, run, window, numbers, rows, out, used)
 }
 
-// Opens a traverse that was read: the names line and a fresh run, or the refusal. Open to callers: any traverse whatever.
-pub fn begin(traverse: Traverse, out: &mut [u8], used: usize) -> Turned
-    ensures { left_turn result [] [] out.new ≡ turn_left (record { said = begin_of (traverse_of traverse.entry) []; numbers = [] }) fresh_run [] [] out.old used }
+// Opens a traverse that was read: the names line or the refusal, and a fresh run. Open to callers: any traverse whatever.
+pub fn begin(traverse: Traverse, out: &mut [u8], used: usize) -> (Turn, Run)
+    ensures { left_turn result.0 result.1 [] [] out.new ≡ turn_left (record { said = begin_of (traverse_of traverse.entry) []; numbers = [] }) fresh_run [] [] out.old used }
 {
     let run = Run {
         cursor: Cursor { at: 0, line: 0 },
         state: State::fresh(),
     };
     if !has_line_room(out.len(), used) {
-        return Turned {
-            turn: Turn::Full,
-            run,
-        };
+        return (Turn::Full, run);
     }
     match march::open_traverse(traverse) {
-        Ok(_) => names(run, out, used),
-        Err(refusal) => refuse(run, out, used, refusal),
+        Ok(_) => (Turn::Line(put_line(Line::Names, out, used)), run),
+        Err(refusal) => (refuse(refusal, out, used), run),
     }
 }

@@ -1,24 +1,18 @@
 -- What a caller's numbers stand for beside points and rows, and what a call leaves in them.
-use Rattle.std.specs.Prelude.{Bool, cond, ◌&&◌, ◌||◌, List, [], ◌∷◌, ℕ, eqb, leb, ℤ, pos, Result, Ok, Err}
-use Rattle.std.specs.Int.Signed.{lt_z}
+use Rattle.std.specs.Prelude.{Bool, cond, ◌&&◌, List, [], ◌∷◌, ℕ, eqb, leb, ℤ, pos, Result, Ok, Err}
 use Rattle.records.specs.declared.Refusal.{Refusal}
 use Rattle.records.specs.Refusals.{number_of}
 use Rattle.records.specs.Groups.{at}
 use Rattle.march.specs.declared.State.{State}
+use Rattle.march.specs.Groups as march
 
 -- ---- the state: elapsed seconds, and whether a first record was accepted, any number but 0 for yes
 
-unfoldable pub not_zero : ℤ → Bool
-not_zero x = lt_z x (pos 0) || lt_z (pos 0) x
-
 abbrev pub state_of : List ℤ → State
-state_of l = record { elapsed = at l 0; started = not_zero (at l 1) }
-
-abbrev pub started_number : Bool → ℤ
-started_number started = cond started (pos 1) (pos 0)
+state_of l = march.state_of (at l)
 
 abbrev pub state_numbers : State → List ℤ
-state_numbers st = st.elapsed ∷ started_number st.started ∷ []
+state_numbers = march.of_state
 
 -- ---- the answer: the place of a refusal, and low and high of the shore height
 

@@ -3,7 +3,7 @@
 
 ghost use Rattle.lent.specs.Decks.{left_text, ReadsDeck};
 
-use super::numbers::{ANSWER, WRONG_BUFFER, place_number, tell};
+use super::numbers::{WRONG_BUFFER, place_number, tell};
 use records::Head;
 
 // The three values are those of the file's second line; `text` is room for the file, whose bytes go to its front. The answer has how many there are.
@@ -18,9 +18,9 @@ pub fn read_deck(
 ) -> u64
     ensures { ReadsDeck latitude friction initial deck.now text.old answer.old (left_text result text.new answer.new) }
 {
-    if answer.len() != ANSWER {
+    let Some(answer) = answer.as_mut_array() else {
         return WRONG_BUFFER;
-    }
+    };
     let head = Head {
         latitude,
         friction,

@@ -3,7 +3,7 @@
 
 ghost use Rattle.lent.specs.Making.{left_make, Makes};
 
-use super::numbers::{ANSWER, WRONG_BUFFER, tell};
+use super::numbers::{WRONG_BUFFER, tell};
 use hurricane::Hurricane;
 use records::Closing;
 
@@ -24,9 +24,9 @@ pub fn make_record(
 ) -> u64
     ensures { Makes central edge radius x y seconds tide winds.now sites.now storm.old answer.old (left_make result storm.new answer.new) }
 {
-    if answer.len() != ANSWER {
+    let Some(answer) = answer.as_mut_array() else {
         return WRONG_BUFFER;
-    }
+    };
     let h = Hurricane {
         central,
         edge,

@@ -3,7 +3,8 @@
 
 ghost use Rattle.lent.specs.Calls.{left_open, Opens};
 
-use super::numbers::{ANSWER, STATE, WRONG_BUFFER, store_state, tell};
+use super::numbers::{STATE, WRONG_BUFFER, tell};
+use records::groups::Group;
 use records::{Head, Traverse};
 
 // `points` has 2 numbers a point. The number of the refusal is returned, 0 where the traverse is accepted.
@@ -17,9 +18,12 @@ pub fn open_traverse(
 ) -> u64
     ensures { Opens latitude friction initial points.now state.old answer.old (left_open result state.new answer.new) }
 {
-    if state.len() != STATE || answer.len() != ANSWER {
+    let Some(state) = state.as_mut_array::<STATE>() else {
         return WRONG_BUFFER;
-    }
+    };
+    let Some(answer) = answer.as_mut_array() else {
+        return WRONG_BUFFER;
+    };
     let head = Head {
         latitude,
         friction,
@@ -27,7 +31,7 @@ pub fn open_traverse(
     };
     match march::open_traverse(Traverse { head, points }) {
         Ok(fresh) => {
-            store_state(state, fresh);
+            fresh.write(state);
             tell(answer, Ok([0, 0, 0]))
         }
         Err(refusal) => tell(answer, Err(refusal)),

@@ -2,11 +2,11 @@
 // numbers of the call's own first, so that a refused text leaves what is lent as it was.
 #![tactic(auto, unfolding(crate::specs::Texts::traverse_buffers, crate::specs::Texts::read_traverse_call, crate::specs::Texts::start_of, crate::specs::Texts::record_buffers, crate::specs::Texts::read_record_call))]
 
-ghost use Rattle.std.specs.Prelude.{◌≡◌, length};
+ghost use Rattle.std.specs.Prelude.{◌≡◌};
 ghost use Rattle.reader.specs.Lines.{leaves};
 ghost use Rattle.lent.specs.Texts.{left_traverse, ReadsTraverse, cursor_of, cursor_numbers, start_of, record_from, left_record, ReadsRecord};
 
-use super::numbers::{ANSWER, WRONG_BUFFER, place_number, tell};
+use super::numbers::{WRONG_BUFFER, place_number, tell};
 use reader::Cursor;
 use records::groups::Group;
 use records::limits::POINTS_MOST;
@@ -29,14 +29,20 @@ const RECORD: usize = VALUES + STORM;
 pub fn read_traverse(text: &[u8], head: &mut [i64], points: &mut [i64], answer: &mut [i64]) -> u64
     ensures { ReadsTraverse text.now head.old points.old answer.old (left_traverse result head.new points.new answer.new) }
 {
-    if head.len() != HEAD || points.len() != POINTS || answer.len() != ANSWER {
+    let Some(head) = head.as_mut_array::<HEAD>() else {
         return WRONG_BUFFER;
-    }
+    };
+    let Some(points) = points.as_mut_array::<POINTS>() else {
+        return WRONG_BUFFER;
+    };
+    let Some(answer) = answer.as_mut_array() else {
+        return WRONG_BUFFER;
+    };
     let mut numbers = [0; POINTS];
     match reader::read_traverse(text, &mut numbers) {
         Ok(found) => {
             found.head.write(head);
-            points.copy_from_slice(&numbers);
+            *points = numbers;
             tell(answer, Ok([0, place_number(found.count), 0]))
         }
         Err(refusal) => tell(answer, Err(refusal)),
@@ -44,8 +50,7 @@ pub fn read_traverse(text: &[u8], head: &mut [i64], points: &mut [i64], answer: 
 }
 
 // A cursor as it is lent; a negative number is read as 0.
-fn load_cursor(numbers: &[i64]) -> Cursor
-    requires { length numbers.now ≡ 2 }
+fn load_cursor(numbers: &[i64; CURSOR]) -> Cursor
     ensures { result ≡ cursor_of numbers.now }
 {
     Cursor {
@@ -54,11 +59,10 @@ fn load_cursor(numbers: &[i64]) -> Cursor
     }
 }
 
-fn store_cursor(numbers: &mut [i64], c: Cursor)
-    requires { length numbers.old ≡ 2 }
+fn store_cursor(numbers: &mut [i64; CURSOR], c: Cursor)
     ensures { numbers.new ≡ cursor_numbers c }
 {
-    numbers.copy_from_slice(&[place_number(c.at), place_number(c.line)]);
+    *numbers = [place_number(c.at), place_number(c.line)];
 }
 
 // The names line, where nothing was read so far.
@@ -95,13 +99,18 @@ pub fn read_record(
 ) -> u64
     ensures { ReadsRecord text.now count cursor.old values.old storm.old answer.old (left_record result cursor.new values.new storm.new answer.new) }
 {
-    if cursor.len() != CURSOR
-        || values.len() != VALUES
-        || storm.len() != STORM
-        || answer.len() != ANSWER
-    {
+    let Some(cursor) = cursor.as_mut_array() else {
         return WRONG_BUFFER;
-    }
+    };
+    let Some(values) = values.as_mut_array::<VALUES>() else {
+        return WRONG_BUFFER;
+    };
+    let Some(storm) = storm.as_mut_array::<STORM>() else {
+        return WRONG_BUFFER;
+    };
+    let Some(answer) = answer.as_mut_array() else {
+        return WRONG_BUFFER;
+    };
     let mut numbers = [0; RECORD];
     match record_from(load_cursor(cursor), text, count, &mut numbers) {
         Ok(Some(past)) => {

@@ -4,7 +4,8 @@
 ghost use Rattle.std.specs.Prelude.{◌≡◌};
 ghost use Rattle.lent.specs.Calls.{rows_size, left_numbers, take_numbers};
 
-use super::numbers::{ANSWER, STATE, WRONG_BUFFER, state_of, store_state, tell};
+use super::numbers::{STATE, WRONG_BUFFER, tell};
+use march::State;
 use records::groups::Group;
 use records::limits::SEGMENTS_MOST;
 use records::{Closing, Head, Row, StormRecord, Traverse};
@@ -36,9 +37,12 @@ pub fn take_numbers(
 ) -> u64
     ensures { left_numbers result state.new numbers.new setup.new answer.new ≡ take_numbers latitude friction initial points.now seconds tide storm.now state.old n numbers.old setup.old answer.old }
 {
-    if state.len() != STATE || answer.len() != ANSWER {
+    let Some(state) = state.as_mut_array::<STATE>() else {
         return WRONG_BUFFER;
-    }
+    };
+    let Some(answer) = answer.as_mut_array() else {
+        return WRONG_BUFFER;
+    };
     let head = Head {
         latitude,
         friction,
@@ -49,11 +53,11 @@ pub fn take_numbers(
         closing: Closing { seconds, tide },
         points: storm,
     };
-    let mut next = state_of(state);
+    let mut next = State::read(state);
     let size = rows_size(n, numbers.len());
     match march::take_record(traverse, record, &mut next, &mut numbers[..size], setup) {
         Ok(height) => {
-            store_state(state, next);
+            next.write(state);
             tell(answer, Ok([0, height.low, height.high]))
         }
         Err(refusal) => tell(answer, Err(refusal)),

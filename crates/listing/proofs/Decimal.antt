@@ -12,7 +12,11 @@ use Rattle.std.specs.Prelude.{Option, Some, None, IfSome, IfNone}
 use Rattle.std.specs.Option.{unwrap_or}
 use lib.Dec.{ltb}
 use borrow.Author.Tests.{lt-ltb, le-ltb, ltb-true, ltb-false}
-use Rattle.listing.specs.Decimal.{digit, digits_of, decimal_of}
+use Rattle.std.specs.Prelude.{ℤ, pos, negsuc, decimal}
+use Rattle.std.specs.Fmt.{signed_decimal}
+use Rattle.std.proofs.Common.{w64, FitsSigned}
+use Rattle.std.proofs.lemmas.Fmt.{decimal_by_steps}
+use Rattle.listing.specs.Decimal.{digit, digits_of, decimal_of, signed_text}
 
 digits-small : (k n : ℕ) → n < 10 → digits_of (suc k) n ≡ digit n ∷ []
 unfolding digits_of
@@ -98,27 +102,14 @@ pub length-counted : (n : ℕ) (r : Option ℕ) → IfNone r (n ≡ 0) → IfSom
 length-counted n None z l h = length-small n (omega arith)
 length-counted n (Some k) z l h = length_between k n l h
 
--- ---- from the last digit on
+-- ---- the digits are what the library prints
 
--- the last k digits of n, with zeros in front where it has fewer
-abbrev pub last_digits : ℕ → ℕ → List ℕ
-last_digits zero n = []
-last_digits (suc k) n = last_digits k (n / 10) ++ (digit (n % 10) ∷ [])
+pub decimal-is : (n : ℕ) → n < 2 ^ 64 → decimal_of n ≡ decimal n
+decimal-is n h =
+    decimal_by_steps (λ m ds. decimal_of m ≡ ds) decimal-small
+    (λ m ds l e. decimal-large m l ∙ ap (λ (x : List ℕ). x ++ (digit (m % 10) ∷ [])) e) n h
 
-pub length-last : (k n : ℕ) → length (last_digits k n) ≡ k
-length-last zero n = refl
-length-last (suc k) n = omega (arith, length-append (last_digits k (n / 10)) (digit (n % 10) ∷ []), length-last k (n / 10))
-
--- as many as it has are all
-all-below : (k n : ℕ) → n < k → last_digits (length (decimal_of n)) n ≡ decimal_of n
-all-below zero n h = elim (not-suc-le-zero h) [ ]
-all-below (suc k) n h =
-    by_size n
-    (λ l. let d : n % 10 ≡ n = omega arith in rw (length-small n l, decimal-small n l, d))
-    (λ l.
-    let e : length (decimal_of n) ≡ suc (length (decimal_of (n / 10))) = omega (arith, length-large n l) in
-    let d = tenth-less n l in
-    rw (e, decimal-large n l, all-below k (n / 10) (omega arith)))
-
-pub last-all : (n : ℕ) → last_digits (length (decimal_of n)) n ≡ decimal_of n
-last-all n = all-below (suc n) n (omega arith)
+pub signed-is : (x : ℤ) → FitsSigned w64 x → signed_text x ≡ signed_decimal x
+unfolding signed_text
+signed-is (pos n) h = decimal-is n (omega (arith, h))
+signed-is (negsuc n) h = ap (λ (ds : List ℕ). 45 ∷ ds) (decimal-is (suc n) (omega (arith, h)))

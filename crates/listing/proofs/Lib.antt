@@ -2,7 +2,6 @@
 pub mod Decimal
 pub mod Written
 pub mod Signed
-pub mod Stored
 pub mod Answer
 pub mod Lines
 pub mod Meaning

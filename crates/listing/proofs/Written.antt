@@ -1,10 +1,10 @@
 -- Laws of `written`: what stores and calls one behind the other write together. Assumes nothing.
-use mathlib.Core.Path.{◌≡◌, refl, sym, ap, ◌∙◌}
-use mathlib.Core.List.{List, [], ◌∷◌, ◌++◌, append_assoc, append-nil}
+use mathlib.Core.Path.{◌≡◌, sym, ◌∙◌}
+use mathlib.Core.List.{List, [], ◌∷◌, ◌++◌, append-nil}
 use Prim.Native.Nat.{ℕ, suc, ◌+◌, ◌<◌, ◌≤◌}
 use native.Mathlib.Omega.{arith}
-use lib.ListN.{length, take, drop, set, length-append, take-append-drop}
-use lib.Seq.{sets, sets-eq, length-sets, lt-length-set, take-set-le, drop-set-lt, drop-cons, get_or-set_same, append_snoc}
+use lib.ListN.{length, set, length-append, take-append-drop}
+use lib.Seq.{sets, sets-eq, length-sets}
 use Rattle.listing.specs.Put.{written, Wrote}
 
 -- `written` is a run of stores, where the bytes fit
@@ -47,23 +47,6 @@ written-close xs b at s h =
     let k : length (written xs at s) ≡ length s = length-written xs at s (omega arith) in
     sym (written_one b (at + length xs) (written xs at s) (omega arith)) ∙ written_on xs (b ∷ []) at s (omega arith)
 
--- the last byte may go first
-pub written_last : (xs : List ℕ) (b at : ℕ) (s : List ℕ) → at + length xs < length s
-    → written xs at (set s (at + length xs) b) ≡ written (xs ++ (b ∷ [])) at s
-unfolding written
-written_last xs b at s h =
-    let l : at + length xs < length (set s (at + length xs) b) = lt-length-set s (at + length xs) b h in
-    let e : at + length (xs ++ (b ∷ [])) ≡ suc (at + length xs) = omega (arith, length-append xs (b ∷ [])) in
-    rw (
-      e,
-      take-set-le at s (at + length xs) b (omega arith),
-      drop-cons (set s (at + length xs) b) (at + length xs) 0 l,
-      get_or-set_same s (at + length xs) b 0 h,
-      drop-set-lt (suc (at + length xs)) s (at + length xs) b (omega arith),
-    )
-    (sym (append_snoc (take at s ++ xs) b (drop (suc (at + length xs)) s))
-    ∙ ap (λ (x : List ℕ). x ++ drop (suc (at + length xs)) s) (append_assoc (take at s) xs (b ∷ [])))
-
 -- ---- calls one behind the other
 
 module _ {xs ys : List ℕ} {at : ℕ} {s : List ℕ} {next : ℕ} {t : List ℕ} (first : Wrote xs at s next t) where
@@ -73,14 +56,15 @@ module _ {xs ys : List ℕ} {at : ℕ} {s : List ℕ} {next : ℕ} {t : List ℕ
     buffer = then.buffer ∙ rw (first.place, first.buffer) (written_on xs ys at s h);
   }
 
--- bytes behind a byte that was stored
-pub wrote_after : {ys : List ℕ} {b at : ℕ} {s : List ℕ} {next : ℕ} {t : List ℕ} → Wrote ys (at + 1) (set s at b) next t
-    → at + 1 + length ys ≤ length s → Wrote (b ∷ ys) at s next t
-wrote_after {ys} {b} {at} {s} then h =
-    let l : at < length s = omega arith in
-    wrote_on (record { place = refl; buffer = sym (written_one b at s l) }) then (omega arith)
-
 -- the place behind a number and the byte that closes it
 pub wrote-next : (xs : List ℕ) (b : ℕ) {at : ℕ} {s : List ℕ} {next : ℕ} {t : List ℕ}
     → Wrote (xs ++ (b ∷ [])) at s next t → next ≡ at + length xs + 1
 wrote-next xs b h = omega (arith, h.place, length-append xs (b ∷ []))
+
+-- bytes, and one byte stored behind them
+pub wrote_close : {xs : List ℕ} {at : ℕ} {s : List ℕ} {next : ℕ} {t : List ℕ} (b : ℕ) → Wrote xs at s next t → at + length xs < length s
+    → Wrote (xs ++ (b ∷ [])) at s (next + 1) (set t next b)
+wrote_close {xs} {at} {s} b w h = record {
+  place = omega (arith, w.place, length-append xs (b ∷ []));
+  buffer = rw (w.place, w.buffer) (written-close xs b at s h);
+}

@@ -5,6 +5,8 @@ ghost use Rattle.listing.specs.Decimal.{decimal_of, signed_text};
 ghost use Rattle.listing.specs.Lines.{values_line};
 ghost use Rattle.listing.specs.Put.{Wrote};
 
+use itoa::Buffer;
+
 // Whether a buffer of this size has room for so many bytes from `at` on, wherever `at` is.
 pub fn has_room(size: usize, at: usize, count: usize) -> bool
     ensures { result ≡ leb (at + count) size }
@@ -36,20 +38,23 @@ pub fn write_bytes(out: &mut [u8], at: usize, bytes: &[u8]) -> usize
     end
 }
 
-// n and the byte that closes it. The digits come out of n last first, so they are stored from the
-// back, with one division each.
+// A word and the byte that closes it.
+fn write_closed(out: &mut [u8], at: usize, bytes: &[u8], close: u8) -> usize
+    requires { at + length bytes.now < length out.old }
+    ensures { Wrote (bytes.now ++ (close ∷ [])) at out.old result out.new }
+{
+    let end = write_bytes(out, at, bytes);
+    out[end] = close;
+    end + 1
+}
+
+// n and the byte that closes it.
 pub fn write_decimal(out: &mut [u8], at: usize, n: u64, close: u8) -> usize
     requires { at + length (decimal_of n) < length out.old }
     ensures { Wrote (decimal_of n ++ (close ∷ [])) at out.old result out.new }
 {
-    let end = at + digit_count(n);
-    let mut rest = n;
-    for place in (at..end).rev() {
-        out[place] = b'0' + (rest % 10) as u8;
-        rest /= 10;
-    }
-    out[end] = close;
-    end + 1
+    let mut digits = Buffer::new();
+    write_closed(out, at, digits.format(n).as_bytes(), close)
 }
 
 // x and the byte that closes it.
@@ -57,12 +62,8 @@ pub fn write_signed(out: &mut [u8], at: usize, x: i64, close: u8) -> usize
     requires { at + length (signed_text x) < length out.old }
     ensures { Wrote (signed_text x ++ (close ∷ [])) at out.old result out.new }
 {
-    let size = x.unsigned_abs();
-    if x < 0 {
-        out[at] = b'-';
-        return write_decimal(out, at + 1, size, close);
-    }
-    write_decimal(out, at, size, close)
+    let mut digits = Buffer::new();
+    write_closed(out, at, digits.format(x).as_bytes(), close)
 }
 
 // How many bytes a line of three values takes, each with the byte that closes it. The bound is there for callers, as above.

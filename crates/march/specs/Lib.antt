@@ -1,5 +1,7 @@
 -- The root of the definitions of `march`.
 pub mod Answers
+pub mod Groups
+pub mod GroupsLaws
 pub mod Given
 pub mod Checks
 pub mod March

@@ -7,6 +7,7 @@ ghost use Rattle.std.specs.Prelude.{◌≡◌};
 ghost use Rattle.march.specs.Checks.{fresh_state};
 
 mod checks;
+mod groups;
 mod march;
 mod take;
 

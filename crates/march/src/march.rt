@@ -7,6 +7,7 @@ ghost use Rattle.march.specs.March.{end_at, setting_of, site_between, weather_be
 ghost use Rattle.march.specs.MarchBounds.{PointIn, EndIn, BetweenIn, SettingIn, MarchIn};
 
 use super::{End, Setting};
+use forcing::{Angle, Wind};
 use ranges::Range;
 use records::groups::group_at;
 use records::{Closing, Head, Point, Refusal, Row, Station, StormRecord, Traverse};
@@ -20,7 +21,11 @@ pub fn end_at(points: &[i64], winds: &[i64], i: usize) -> End
 {
     let station = group_at::<Station>(points, i);
     let point = group_at::<Point>(winds, i);
-    let stress = forcing::point_stress(point.wind, point.angle);
+    let wind = Wind { tenths: point.wind };
+    let angle = Angle {
+        tenths: point.angle,
+    };
+    let stress = forcing::point_stress(wind, angle);
     End {
         distance: station.distance,
         depth: station.depth,
@@ -93,9 +98,12 @@ pub fn setting_of(head: Head, closing: Closing, first: bool) -> Setting
     requires { SettingIn head closing }
     ensures { result ≡ setting_of head closing first }
 {
+    let latitude = Angle {
+        tenths: head.latitude,
+    };
     Setting {
         first,
-        sine: forcing::sine(head.latitude),
+        sine: latitude.sine(),
         friction: head.friction,
         seconds: closing.seconds,
         level: head.initial + closing.tide,

@@ -20,7 +20,7 @@ pub extern "C" fn probe_sine(angle: i64) -> i64
     requires { Angle angle }
     ensures { result ≡ sine_of angle }
 {
-    forcing::sine(angle)
+    forcing::Angle { tenths: angle }.sine()
 }
 
 #[unsafe(no_mangle)]
@@ -28,7 +28,7 @@ pub extern "C" fn probe_cosine(angle: i64) -> i64
     requires { Angle angle }
     ensures { result ≡ cosine_of angle }
 {
-    forcing::cosine(angle)
+    forcing::Angle { tenths: angle }.cosine()
 }
 
 // Numerator and square into two places.
@@ -37,7 +37,7 @@ pub extern "C" fn probe_coefficient(w: i64, out: &mut [i64])
     requires { (Wind w × (pos 0 <ℤ w)) × (length out.old ≡ 2) }
     ensures { out.new ≡ parts_of (coefficient_of w) }
 {
-    let k = forcing::coefficient(w);
+    let k = forcing::Wind { tenths: w }.coefficient();
     out.copy_from_slice(&[k.numerator, k.square]);
 }
 
@@ -46,7 +46,7 @@ pub extern "C" fn probe_stress(w: i64) -> i64
     requires { Wind w }
     ensures { result ≡ stress_of w }
 {
-    forcing::stress(w)
+    forcing::Wind { tenths: w }.stress()
 }
 
 // Low and high of a range into two places.

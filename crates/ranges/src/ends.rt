@@ -30,6 +30,7 @@ pub trait RangeEnd {
 }
 
 // The low end: rounded down, the lesser of two.
+#[derive(Clone, Copy, Debug, PartialEq, Eq)]
 pub struct Low;
 
 impl RangeEnd for Low {
@@ -52,6 +53,7 @@ impl RangeEnd for Low {
 }
 
 // The high end: rounded up, the greater of two.
+#[derive(Clone, Copy, Debug, PartialEq, Eq)]
 pub struct High;
 
 impl RangeEnd for High {

@@ -6,19 +6,18 @@
 ghost use Rattle.std.specs.Prelude.{◌≡◌, ℕ, ◌+◌, ◌-◌, ◌*◌, ◌<◌, ◌≤◌, length, IfOk, IsErrOf};
 ghost use Rattle.reader.specs.Storm.{record_size, longest_record};
 
-use files::{Failed, Held, Stop, TURNS};
+use files::{Failed, Held, Source, Stop, TURNS};
 use reader::{Cursor, Halt, TraverseRead, Window};
 use records::groups::{Group, group_at};
 use records::limits::POINTS_MOST;
 use records::{Closing, Point, Refusal, Station};
 use std::fmt;
 use std::fmt::Write;
-use std::fs::File;
 
 // ---- printing
 
 // A line of what is printed.
-#[derive(Clone, Copy)]
+#[derive(Clone, Copy, Debug, PartialEq, Eq)]
 enum Line {
     Traverse(TraverseRead),
     Station(Station),
@@ -56,7 +55,7 @@ struct Out<'a> {
 }
 
 impl Write for Out<'_> {
-    // A full block is written before the next byte; one that cannot be is lost, and the last write, which tells its failure, fails too.
+    // A full block is written before the next byte; one that cannot be is lost untold: the last write alone tells its failure.
     fn write_str(&mut self, s: &str) -> fmt::Result {
         for b in s.as_bytes() {
             if self.used == self.bytes.len() {
@@ -92,17 +91,6 @@ fn print_traverse(out: &mut Out<'_>, traverse: TraverseRead, points: &[i64])
     }
 }
 
-// Prints the record of n points that was read into the lent numbers.
-fn print_record(out: &mut Out<'_>, numbers: &[i64], n: usize)
-    requires { record_size n ≤ length numbers.now }
-{
-    out.print(Line::Record(group_at(numbers, 0)));
-    let points = &numbers[Closing::NUMBERS..];
-    for i in 0..n {
-        out.print(Line::Point(group_at(points, i)));
-    }
-}
-
 // ---- the storm
 
 // Goes past the names line, where no line was read yet.
@@ -117,44 +105,48 @@ fn past_names(cursor: Cursor, text: Window) -> Result<Cursor, Halt>
     Ok(cursor)
 }
 
-// A storm's file, read through the lent window: how the window stands, and where reading stands in it.
+// A storm's file, read through the lent window: how the window stands, and where reading stands in it. A record of n points goes into the lent
+// numbers.
 #[derive(Drop)]
 struct Storm<'a> {
-    file: Option<File>,
+    source: Source,
     buf: &'a mut [u8],
-    window: Held,
+    held: Held,
     cursor: Cursor,
+    n: usize,
+    numbers: &'a mut [i64],
     ghost wide: { longest_record ≤ length buf.now },
-    ghost held: { window.have ≤ length buf.now },
-    ghost place: { cursor.at ≤ window.have },
+    ghost within: { held.have ≤ length buf.now },
+    ghost place: { cursor.at ≤ held.have },
+    ghost room: { record_size n ≤ length numbers.now },
 }
 
 impl<'a> Storm<'a> {
     // Before the first byte.
-    fn open(rt: &HostRuntime, buf: &'a mut [u8]) -> Storm<'a>
-        requires { longest_record ≤ length buf.old }
+    fn open(rt: &HostRuntime, buf: &'a mut [u8], n: usize, numbers: &'a mut [i64]) -> Storm<'a>
+        requires window { longest_record ≤ length buf.old }
+        requires room { record_size n ≤ length numbers.old }
     {
-        let file = files::open(rt, "storm.txt");
-        let window = Held::before(&file);
+        let mut source = Source::named("storm.txt");
+        source.open(rt);
+        let held = Held::before(&source.file);
         Storm {
-            file,
+            source,
             buf,
-            window,
+            held,
             cursor: Cursor { at: 0, line: 0 },
+            n,
+            numbers,
         }
     }
 
-    // Reads the next record of n points, past the names line where that is next; false where the text ends here.
-    fn next(&mut self, n: usize, numbers: &mut [i64]) -> Result<bool, Halt>
-        requires { record_size n ≤ length numbers.old }
-        ensures { IsErrOf result Halt.More → self.new.window.have - self.new.cursor.at < length self.new.buf.now }
+    // Reads the next record, past the names line where that is next; false where the text ends here.
+    fn next(&mut self) -> Result<bool, Halt>
+        ensures { IsErrOf result Halt.More → self.new.held.have - self.new.cursor.at < length self.new.buf.now }
     {
-        let text = Window {
-            bytes: &self.buf[..self.window.have],
-            last: self.window.last,
-        };
+        let text = self.held.window(self.buf);
         self.cursor = past_names(self.cursor, text)?;
-        match self.cursor.record_step(text, n, numbers)? {
+        match self.cursor.record_step(text, self.n, self.numbers)? {
             Some(past) => {
                 self.cursor = past;
                 Ok(true)
@@ -165,35 +157,29 @@ impl<'a> Storm<'a> {
 
     // More of the file, where the window does not hold what comes next.
     fn refill(&mut self, rt: &HostRuntime) -> Result<(), Failed>
-        requires { self.old.window.have - self.old.cursor.at < length self.old.buf.now }
+        requires { self.old.held.have - self.old.cursor.at < length self.old.buf.now }
     {
         let at = self.cursor.at;
-        self.window = files::refill(
-            rt,
-            "storm.txt",
-            &mut self.file,
-            self.buf,
-            at,
-            self.window.have,
-        )?;
+        self.held = self.source.refill(rt, self.buf, at, self.held.have)?;
         self.cursor.at = 0;
         Ok(())
+    }
+
+    // Prints the record that was read.
+    fn print(&self, out: &mut Out<'_>) {
+        out.print(Line::Record(group_at(self.numbers, 0)));
+        let points = &self.numbers[Closing::NUMBERS..];
+        for i in 0..self.n {
+            out.print(Line::Point(group_at(points, i)));
+        }
     }
 }
 
 // Prints record after record, to the end or to the refusal.
-fn print_storm(
-    rt: &HostRuntime,
-    storm: &mut Storm<'_>,
-    n: usize,
-    numbers: &mut [i64],
-    out: &mut Out<'_>,
-) -> Result<(), Stop>
-    requires { record_size n ≤ length numbers.old }
-{
+fn print_storm(rt: &HostRuntime, storm: &mut Storm<'_>, out: &mut Out<'_>) -> Result<(), Stop> {
     for _ in 0..TURNS {
-        match storm.next(n, numbers) {
-            Ok(true) => print_record(out, numbers, n),
+        match storm.next() {
+            Ok(true) => storm.print(out),
             Ok(false) => return Ok(()),
             Err(Halt::More) => storm.refill(rt)?,
             Err(Halt::Refused(refusal)) => return Err(Stop::Refused(refusal)),
@@ -217,8 +203,8 @@ fn run(
 {
     let traverse = files::read_traverse(rt, buf, points)?;
     print_traverse(out, traverse, points);
-    let mut storm = Storm::open(rt, buf);
-    print_storm(rt, &mut storm, traverse.count, numbers, out)
+    let mut storm = Storm::open(rt, buf, traverse.count, numbers);
+    print_storm(rt, &mut storm, out)
 }
 
 // Room for 65 points, and for a record of as many.

@@ -1,4 +1,5 @@
--- What is read ends within the text, or within the window. Assumes nothing.
+-- What is read ends within the text, or within the window; and a step on a traverse text asks for more of it only where its window is short of what
+-- comes next. Assumes nothing.
 use Rattle.std.proofs.Common.{Result, Ok, Err, Option, Some, None}
 use mathlib.Core.Path.{◌≡◌, refl, sym, ◌∙◌, subst}
 use mathlib.Core.Bool.{Bool, true, false, cond}
@@ -8,7 +9,7 @@ use native.Mathlib.Omega.{arith}
 use lib.ListN.{length}
 use lib.Dec.{ltb, eqb}
 use lib.IntN.{ℤ}
-use borrow.Author.Tests.{ltb-true}
+use borrow.Author.Tests.{ltb-true, leb-false}
 use Rattle.records.specs.declared.Kind.TheVariants as kind
 use Rattle.records.specs.Refusals.{refusal}
 use Rattle.records.specs.Limits.{count_ok, most_points}
@@ -16,9 +17,9 @@ use Rattle.reader.specs.Text.{more, byte, value_at, past_at}
 use Rattle.reader.specs.Lines.{Outcome, read, refused, found, Leaves, leaves, laid, repeated, kept_with, same_with, Line, full, bad, closed_at, values_at, lines_read, after, lines_at, spells, names_at, holds}
 use Rattle.reader.specs.Storm.{storm_names, storm_start, record_of, record_lines, Further, one, none, next_at, kept_at, next_of, too_few, next_left, start_step, answered, holds_record, Seen, needs-more, seen, record_step, record_step_left}
 use Rattle.reader.specs.Traverse.{head_names, point_names, Held, value_line, line_by, line_at, end_of, end_step, end_left, on_step, more_step, step_at, traverse_step}
-use Rattle.reader.specs.declared.traverse.Part.{Part}
-use Rattle.reader.specs.declared.traverse.Part.TheVariants.{Names, Values, Columns, Points}
 use Rattle.reader.specs.declared.traverse.Known.{Known}
+use Rattle.reader.specs.declared.traverse.Known.TheVariants.{Names, Values, Columns, Points}
+use Rattle.reader.specs.declared.traverse.TraverseRead.{TraverseRead}
 use Rattle.reader.specs.declared.traverse.Progress.{Progress}
 use Rattle.reader.specs.declared.traverse.Progress.TheVariants as progress
 use Rattle.reader.proofs.Laws.{closed-present}
@@ -88,31 +89,37 @@ names-end s want at line h = go (spells s at want) refl
     go true e = spells-end s want at h e
     go false e = tt
 
+-- a window that does not hold so many bytes from a place on
+pub holds_not : (size : ℕ) (last : Bool) (at need : ℕ) → holds size last at need ≡ false → (size < at + need) × (last ≡ false)
+unfolding holds
+holds_not size true at need e = let z : ◌≡◌ {A = ℕ} 0 1 = cc in absurd (omega arith)
+holds_not size false at need e = (leb-false (at + need) size e, refl)
+
 -- ---- a traverse text
 
 line-end : (s : List ℕ) (h : Held) (at line : ℕ) → at ≤ length s → Inside (length s) (line_at s h at line)
 unfolding line_at
-line-end s h at line e = go h.known.part
+line-end s h at line e = go h.known
   where
-    go : (p : Part) → Inside (length s) (line_by s p h at line)
+    go : (k : Known) → Inside (length s) (line_by s k h.points at line)
     go Names = found_inside _ (names_at s head_names at line) _ (names-end s head_names at line e)
     go Values = found_inside _ (value_line s 3 at line).answer _ (lines_end s 3 0 1 0 at line [] e)
-    go Columns = found_inside _ (names_at s point_names at line) _ (names-end s point_names at line e)
-    go Points = found_inside _ (value_line s 2 at line).answer _ (lines_end s 2 0 1 0 at line [] e)
+    go (Columns d) = found_inside _ (names_at s point_names at line) _ (names-end s point_names at line e)
+    go (Points t) = found_inside _ (value_line s 2 at line).answer _ (lines_end s 2 0 1 0 at line [] e)
 
 -- where a step stops for more of the text
 abbrev pub Stands : ℕ → ℕ → Result Progress Refusal → Type 0
-Stands from to (Ok (progress.Read k)) = Unit {0}
+Stands from to (Ok (progress.Read t)) = Unit {0}
 Stands from to (Ok (progress.More c k)) = (from ≤ c.at) × (c.at ≤ to)
 Stands from to (Err q) = Unit {0}
 
-stands-end : (from to : ℕ) (o : Outcome Known) → Stands from to (end_step o)
+stands-end : (from to : ℕ) (o : Outcome TraverseRead) → Stands from to (end_step o)
 unfolding end_step
 stands-end from to (read k a l) = tt
 stands-end from to (refused q) = tt
 
 stands-wider : (from from' to : ℕ) (p : Result Progress Refusal) → from ≤ from' → Stands from' to p → Stands from to p
-stands-wider from from' to (Ok (progress.Read k)) h s = tt
+stands-wider from from' to (Ok (progress.Read t)) h s = tt
 stands-wider from from' to (Ok (progress.More c k)) h s = (omega arith, s.1)
 stands-wider from from' to (Err q) h s = tt
 
@@ -162,6 +169,44 @@ module _ (w : List ℕ) (last : Bool) (to : ℕ) (n : length w ≤ to) where
       go : (c : Bool) → ltb at (length w) ≡ c → Stands (at + 1) to (cond c (on_step h (line_at w h at line) (traverse_step w last)) (end_left (end_of h at line))).answer
       go true e = let p : at < length w = ltb-true _ _ e in onto (line_at w h at line) (line_on w h at line) (line-end w h at line (omega arith))
       go false e = stands-end (at + 1) to (end_of h at line).answer
+
+-- a step asks for more of the text only where its window is short of a line, which takes 33 bytes at most, and not where the text ends with it
+abbrev pub Asks : ℕ → Bool → Result Progress Refusal → Type 0
+Asks size last (Ok (progress.Read t)) = Unit {0}
+Asks size last (Ok (progress.More c k)) = (size < c.at + 33) × (last ≡ false)
+Asks size last (Err r) = Unit {0}
+
+asks-end : (size : ℕ) (last : Bool) (o : Outcome TraverseRead) → Asks size last (end_step o)
+unfolding end_step
+asks-end size last (read k a l) = tt
+asks-end size last (refused r) = tt
+
+module _ (w : List ℕ) (last : Bool) where
+  -- f lines are enough where no more bytes are left
+  step-asks : (f : ℕ) (h : Held) (at line : ℕ) → length w ≤ at + f → Asks (length w) last (step_at w last f h at line).answer
+  unfolding step_at
+  step-asks zero h at line g = go last refl
+    where
+      go : (b : Bool) → last ≡ b → Asks (length w) last (cond b (end_left (end_of h at line)) (more_step h at line)).answer
+      go true e = asks-end (length w) last (end_of h at line).answer
+      go false e = (omega arith, e)
+  step-asks (suc f) h at line g = go (holds (length w) last at 33) refl (ltb at (length w)) (line_at w h at line) (line_on w h at line) (λ k a l p. step-asks f k a l p)
+    where
+      onto : (r : Outcome Held) → Past (at + 1) r → ((k : Held) (a l : ℕ) → length w ≤ a + f → Asks (length w) last (step_at w last f k a l).answer)
+          → Asks (length w) last (on_step h r (step_at w last f)).answer
+      onto (read k a l) p ih = ih k a l (omega arith)
+      onto (refused q) p ih = asks-end (length w) last (refused q)
+
+      go : (b : Bool) → holds (length w) last at 33 ≡ b → (c : Bool) (r : Outcome Held) → Past (at + 1) r
+          → ((k : Held) (a l : ℕ) → length w ≤ a + f → Asks (length w) last (step_at w last f k a l).answer)
+          → Asks (length w) last (cond b (cond c (on_step h r (step_at w last f)) (end_left (end_of h at line))) (more_step h at line)).answer
+      go true e true r p ih = onto r p ih
+      go true e false r p ih = asks-end (length w) last (end_of h at line).answer
+      go false e c r p ih = holds_not (length w) last at 33 e
+
+  pub traverse-asks : (h : Held) (at line : ℕ) → Asks (length w) last (traverse_step w last h at line).answer
+  unfolding traverse_step
+  traverse-asks h at line = step-asks (length w) h at line (omega arith)
 
 -- ---- a storm text
 

@@ -1,5 +1,6 @@
 -- What one step finds in a window of a text is what the whole text has there. Assumes nothing.
-use mathlib.Core.Path.{◌≡◌, refl, sym, ap, ◌∙◌}
+use Rattle.std.proofs.Common.{Result, Ok}
+use mathlib.Core.Path.{◌≡◌, refl, sym, ap, ◌∙◌, subst}
 use mathlib.Core.Bool.{Bool, true, false, cond}
 use mathlib.Core.List.{List, []}
 use Prim.Native.Nat.{ℕ, zero, suc, ◌+◌, ◌*◌, ◌<◌, ◌≤◌}
@@ -12,16 +13,23 @@ use Rattle.records.specs.declared.Kind.TheVariants as kind
 use Rattle.records.specs.Refusals.{refusal}
 use Rattle.records.specs.Groups.{station_count}
 use Rattle.records.specs.Limits.{count_ok, most_points}
-use Rattle.reader.specs.Lines.{Outcome, read, refused, found, leaves, LinesRead, names_at, holds}
+use Rattle.reader.specs.Text.{byte}
+use Rattle.reader.specs.Lines.{Outcome, read, refused, found, Leaves, leaves, LinesRead, names_at, holds}
 use Rattle.reader.specs.Storm.{storm_names, storm_start, record_of, record_lines, Further, one, none, next_at, Storm, with, storm_by, records_by, storm_rest, start_step, holds_record, seen, needs-more, record_step}
-use Rattle.reader.specs.Traverse.{head_names, point_names, Held, held, expecting, with_values, with_point, value_line, line_by, line_at, counted_by, end_by, end_at, end_of, on_rest, rest_at, traverse_read, read_left, end_step, end_left, on_step, more_step, step_at, traverse_step}
-use Rattle.reader.specs.Window.{Shows, moved, carried, storm_on, TraverseStepHolds, StartStepHolds, RecordStepHolds}
-use Rattle.reader.specs.declared.traverse.Part.{Part}
-use Rattle.reader.specs.declared.traverse.Part.TheVariants.{Names, Values, Columns, Points}
+use Rattle.reader.specs.Traverse.{head_names, point_names, Held, held, start, with_values, with_point, value_line, line_by, line_at, counted_by, end_at, end_of, on_rest, rest_at, traverse_read, read_left, traverse_left, end_step, end_left, on_step, more_step, step_at, traverse_step}
+use Rattle.reader.specs.Window.{Shows, moved, carried_by, carried, storm_on, TraverseStepHolds, StartStepHolds, RecordStepHolds}
+use Rattle.reader.specs.declared.traverse.Known.{Known}
+use Rattle.reader.specs.declared.traverse.Known.TheVariants.{Names, Values, Columns, Points}
+use Rattle.reader.specs.declared.traverse.TraverseRead.{TraverseRead}
+use Rattle.reader.specs.declared.traverse.Progress.{Progress}
+use Rattle.reader.specs.declared.traverse.Progress.TheVariants as progress
+use Rattle.reader.specs.declared.Cursor.{Cursor}
+use Rattle.records.specs.declared.Refusal.{Refusal}
+use Rattle.reader.proofs.Laws.{never}
 use Rattle.reader.proofs.StormLaws.{counts-in}
 use Rattle.reader.proofs.TraverseLaws.{Past, line_on, rest_end, rest-line}
 use Rattle.reader.proofs.WindowLaws.{Window, shows-far, moved_lines, found-moved, lines-local, names-local, names_same}
-use Rattle.reader.proofs.Ends.{Read-on, next-on}
+use Rattle.reader.proofs.Ends.{Asks, traverse-asks, Read-on, next-on}
 
 -- a window that holds so many bytes from a place on, or is the last, shows that far
 far : {s w : List ℕ} {o : ℕ} (last : Bool) (at need : ℕ) → Shows s w o last → holds (length w) last at need ≡ true → Window s w o (at + need)
@@ -70,35 +78,35 @@ module _ (s w : List ℕ) (o : ℕ) (last : Bool) (h : Shows s w o last) where
 
 pub line-window : {s w : List ℕ} {o : ℕ} (h : Held) (at line : ℕ) → Window s w o (at + 33) → line_at s h (o + at) line ≡ moved o (line_at w h at line)
 unfolding line_at
-line-window {s} {w} {o} h at line v = go h.known.part
+line-window {s} {w} {o} h at line v = go h.known
   where
     -- the values of a line, and what they make of what is known
     one_line : (width : ℕ) (f : List ℤ → Held) → value_line s width (o + at) line ≡ moved_lines o (value_line w width at line)
         → found (value_line s width (o + at) line).answer (f (value_line s width (o + at) line).kept) ≡ moved o (found (value_line w width at line).answer (f (value_line w width at line).kept))
     one_line width f e = rw e (found-moved o (value_line w width at line).answer (f (value_line w width at line).kept))
 
-    go : (p : Part) → line_by s p h (o + at) line ≡ moved o (line_by w p h at line)
-    go Names = rw (names-local v head_names at line (omega arith)) (found-moved o (names_at w head_names at line) (held (expecting Values h.known) h.points))
-    go Values = one_line 3 (λ l. held (with_values l h.known) h.points) (lines-local v 3 0 1 0 at line [] (omega arith) (omega arith))
-    go Columns = rw (names-local v point_names at line (omega arith)) (found-moved o (names_at w point_names at line) (held (expecting Points h.known) h.points))
-    go Points = one_line 2 (λ l. with_point l h) (lines-local v 2 0 1 0 at line [] (omega arith) (omega arith))
+    go : (k : Known) → line_by s k h.points (o + at) line ≡ moved o (line_by w k h.points at line)
+    go Names = rw (names-local v head_names at line (omega arith)) (found-moved o (names_at w head_names at line) (held Values h.points))
+    go Values = one_line 3 (λ l. held (with_values l) h.points) (lines-local v 3 0 1 0 at line [] (omega arith) (omega arith))
+    go (Columns d) = rw (names-local v point_names at line (omega arith)) (found-moved o (names_at w point_names at line) (held (Points (record { head = d; count = 0 })) h.points))
+    go (Points t) = one_line 2 (λ l. with_point l t h.points) (lines-local v 2 0 1 0 at line [] (omega arith) (omega arith))
 
 end-window : (s : List ℕ) (o : ℕ) (h : Held) (at line : ℕ) → carried s o (end_left (end_of h at line)) ≡ read_left (end_of h (o + at) line)
 unfolding end_at end_step traverse_read
-end-window s o h at line = go h.known.part
+end-window s o h at line = go h.known
   where
-    counted : (a b c : Bool) → carried s o (end_left (leaves (cond a (refused (refusal kind.Ended line)) (cond b (cond c (refused (refusal kind.Lent 0)) (read h.known at line)) (refused (refusal kind.Points h.known.count)))) h.points))
-        ≡ read_left (leaves (cond a (refused (refusal kind.Ended line)) (cond b (cond c (refused (refusal kind.Lent 0)) (read h.known (o + at) line)) (refused (refusal kind.Points h.known.count)))) h.points)
-    counted true b c = refl
-    counted false true true = refl
-    counted false true false = refl
-    counted false false c = refl
+    counted : (t : TraverseRead) (a b c : Bool) → carried s o (end_left (leaves (cond a (refused (refusal kind.Ended line)) (cond b (cond c (refused (refusal kind.Lent 0)) (read t at line)) (refused (refusal kind.Points t.count)))) h.points))
+        ≡ read_left (leaves (cond a (refused (refusal kind.Ended line)) (cond b (cond c (refused (refusal kind.Lent 0)) (read t (o + at) line)) (refused (refusal kind.Points t.count)))) h.points)
+    counted t true b c = refl
+    counted t false true true = refl
+    counted t false true false = refl
+    counted t false false c = refl
 
-    go : (p : Part) → carried s o (end_left (leaves (end_by p (station_count h.points) h.known at line) h.points)) ≡ read_left (leaves (end_by p (station_count h.points) h.known (o + at) line) h.points)
+    go : (k : Known) → carried s o (end_left (leaves (end_at (station_count h.points) k at line) h.points)) ≡ read_left (leaves (end_at (station_count h.points) k (o + at) line) h.points)
     go Names = refl
     go Values = refl
-    go Columns = refl
-    go Points = unfold counted_by in counted (eqb h.known.count 0) (count_ok most_points h.known.count) (ltb (station_count h.points) h.known.count)
+    go (Columns d) = refl
+    go (Points t) = unfold counted_by in counted t (eqb t.count 0) (count_ok most_points t.count) (ltb (station_count h.points) t.count)
 
 module _ (s w : List ℕ) (o : ℕ) (last : Bool) (sh : Shows s w o last) where
   -- at the end of the last window, and of the text
@@ -138,6 +146,22 @@ module _ (s w : List ℕ) (o : ℕ) (last : Bool) (sh : Shows s w o last) where
   pub traverse-window : (h : Held) (at line : ℕ) → carried s o (traverse_step w last h at line) ≡ read_left (rest_at s h (o + at) line)
   unfolding traverse_step
   traverse-window h at line = step-window (length w) h at line (omega arith)
+
+-- ---- a traverse text that is held whole: it is its own last window
+
+shows-whole : (s : List ℕ) → Shows s s 0 true
+shows-whole s = record { within = omega arith; bytes = λ j h. let z : 0 + j ≡ j = omega arith in ap (byte s) z; ends = λ e. omega arith }
+
+module _ (s : List ℕ) (lent out : List ℤ) (k : Known) (p : Result Progress Refusal) (e : leaves p out ≡ traverse_step s true (held k lent) 0 0) where
+  pub whole_is : k ≡ start → carried_by s 0 p out ≡ traverse_left s lent
+  unfolding traverse_left
+  whole_is f = ap (carried s 0) e ∙ traverse-window s s 0 true (shows-whole s) (held k lent) 0 0 ∙ ap (λ (k : Known). read_left (rest_at s (held k lent) 0 0)) f
+
+  -- more of it is never asked for
+  pub whole-ends : (c : Cursor) (j : Known) → p ≡ Ok (progress.More c j) → ⊥
+  whole-ends c j f =
+      let g = ap (λ (y : Leaves (Result Progress Refusal)). y.answer) (sym e) ∙ f in
+      never (sym (subst (Asks (length s) true) g (traverse-asks s true (held k lent) 0 0)).1)
 
 -- ---- the rest of a storm text, without its count of records
 

@@ -1,5 +1,5 @@
 -- One line more of a traverse text, where a line ends, and reading on without counting lines. Assumes nothing.
-use Rattle.std.proofs.Common.{◌⊎◌, inl, inr, Result, Ok, Err}
+use Rattle.std.proofs.Common.{Result, Ok, Err}
 use mathlib.Core.Path.{◌≡◌, refl, sym, ap, ◌∙◌}
 use mathlib.Core.Bool.{Bool, true, false, cond}
 use mathlib.Core.List.{List, []}
@@ -15,11 +15,11 @@ use Rattle.records.specs.Refusals.{refusal}
 use Rattle.records.specs.Groups.{station_count}
 use Rattle.reader.specs.Text.{more, digits, negative_at, start_at, value_at, past_at}
 use Rattle.reader.specs.Lines.{Outcome, read, refused, found, Leaves, leaves, repeated, kept_with, same_with, Line, full, bad, closed_at, values_at, lines_read, after, lines_at, spells, names_at, holds}
-use Rattle.reader.specs.Traverse.{head_names, point_names, Held, held, start, value_line, line_by, line_at, line_left, end_at, end_of, on_rest, rest_by, rest_at, traverse_read, read_left, end_step, end_left, on_step, more_step, step_at, traverse_step}
+use Rattle.reader.specs.Traverse.{head_names, point_names, Held, held, value_line, line_by, line_at, line_left, end_at, end_of, on_rest, rest_by, rest_at, traverse_read, end_step, end_left, on_step, more_step, step_at, traverse_step}
 use Rattle.reader.specs.declared.Cursor.{Cursor}
-use Rattle.reader.specs.declared.traverse.Part.{Part}
-use Rattle.reader.specs.declared.traverse.Part.TheVariants.{Names, Values, Columns, Points}
 use Rattle.reader.specs.declared.traverse.Known.{Known}
+use Rattle.reader.specs.declared.traverse.Known.TheVariants.{Names, Values, Columns, Points}
+use Rattle.reader.specs.declared.traverse.TraverseRead.{TraverseRead}
 use Rattle.reader.specs.declared.traverse.Progress.TheVariants as progress
 use Rattle.reader.specs.declared.traverse.Progress.{Progress}
 
@@ -91,16 +91,16 @@ names-on s want at line = go (spells s at want)
 
 pub line_on : (s : List ℕ) (h : Held) (at line : ℕ) → Past (at + 1) (line_at s h at line)
 unfolding line_at
-line_on s h at line = go h.known.part
+line_on s h at line = go h.known
   where
     one : (width : ℕ) → 0 < width → PastLines (at + 1) (value_line s width at line).answer
     one width z = lines-on s width 0 1 0 at line [] z
 
-    go : (p : Part) → Past (at + 1) (line_by s p h at line)
+    go : (k : Known) → Past (at + 1) (line_by s k h.points at line)
     go Names = found-past _ (names_at s head_names at line) _ (past-lines-few _ _ (names_at s head_names at line) (omega arith) (names-on s head_names at line))
     go Values = found-past _ (value_line s 3 at line).answer _ (one 3 (omega arith))
-    go Columns = found-past _ (names_at s point_names at line) _ (past-lines-few _ _ (names_at s point_names at line) (omega arith) (names-on s point_names at line))
-    go Points = found-past _ (value_line s 2 at line).answer _ (one 2 (omega arith))
+    go (Columns d) = found-past _ (names_at s point_names at line) _ (past-lines-few _ _ (names_at s point_names at line) (omega arith) (names-on s point_names at line))
+    go (Points t) = found-past _ (value_line s 2 at line).answer _ (one 2 (omega arith))
 
 -- ---- the rest of a whole text, without its count of lines
 
@@ -114,7 +114,7 @@ module _ (s : List ℕ) where
   unfolding rest_by
   rest-fuel zero g h at line e j = rest-by-end zero h at line (omega arith) ∙ sym (rest-by-end g h at line (omega arith))
   rest-fuel (suc f) zero h at line e j = rest-by-end (suc f) h at line (omega arith) ∙ sym (rest-by-end zero h at line (omega arith))
-  rest-fuel (suc f) (suc g) h at line e j = ap (λ (x : Leaves (Outcome Known)). cond (ltb at (length s)) x (end_of h at line)) (go (line_at s h at line) (line_on s h at line) (λ k a l. rest-fuel f g k a l))
+  rest-fuel (suc f) (suc g) h at line e j = ap (λ (x : Leaves (Outcome TraverseRead)). cond (ltb at (length s)) x (end_of h at line)) (go (line_at s h at line) (line_on s h at line) (λ k a l. rest-fuel f g k a l))
     where
       go : (r : Outcome Held) → Past (at + 1) r → ((k : Held) (a l : ℕ) → length s ≤ a + f → length s ≤ a + g → rest_by s f k a l ≡ rest_by s g k a l) → on_rest h r (rest_by s f) ≡ on_rest h r (rest_by s g)
       go (read k a l) p ih = ih k a l (omega arith) (omega arith)
@@ -132,6 +132,16 @@ module _ (s : List ℕ) where
       once = rw (lt-ltb _ _ e)
 
 -- ---- the same for the lines that a window holds
+
+-- at the end of the text
+abbrev pub progressed : Result TraverseRead Refusal → Result Progress Refusal
+progressed (Ok t) = Ok (progress.Read t)
+progressed (Err q) = Err q
+
+progressed_end : (o : Outcome TraverseRead) → progressed (traverse_read o) ≡ end_step o
+unfolding traverse_read end_step
+progressed_end (read t a l) = refl
+progressed_end (refused q) = refl
 
 -- after a line, by the answer of the code
 module _ (h : Held) (out : List ℤ) (next : Held → ℕ → ℕ → Leaves (Result Progress Refusal)) where
@@ -202,8 +212,8 @@ module _ (w : List ℕ) (last : Bool) where
     step-more e = sym (step-once h at line ∙ rw e)
 
     module _ (e : holds (length w) last at 33 ≡ true) where
-      pub step_end : (r : Result Progress Refusal) (room : ℕ) → length w ≤ at → room ≡ station_count h.points → r ≡ end_step (end_at room h.known at line) → leaves r h.points ≡ traverse_step w last h at line
-      step_end r room f g i = rw (i, g) (sym (step-once h at line ∙ rw (e, le-ltb _ _ f)))
+      pub step_end : (r : Result TraverseRead Refusal) (room : ℕ) → length w ≤ at → room ≡ station_count h.points → r ≡ traverse_read (end_at room h.known at line) → leaves (progressed r) h.points ≡ traverse_step w last h at line
+      step_end r room f g i = rw (i, g, progressed_end (end_at (station_count h.points) h.known at line)) (sym (step-once h at line ∙ rw (e, le-ltb _ _ f)))
 
       module _ (f : at < length w) where
         step_line : on_step h (line_at w h at line) (traverse_step w last) ≡ traverse_step w last h at line
@@ -219,41 +229,3 @@ module _ (w : List ℕ) (last : Bool) where
 
           pub step-on : (c : Cursor) (k : Known) → leaves (Ok (c, k)) out ≡ line_left h (line_at w h at line) → at < c.at
           step-on c k q = on-past h out (traverse_step w last) at (line_at w h at line) (line_on w h at line) c k q
-
--- ---- a text that is held whole
-
-step-last : (s : List ℕ) (f : ℕ) (h : Held) (at line : ℕ) → step_at s true f h at line ≡ end_left (rest_by s f h at line)
-unfolding step_at rest_by holds
-step-last s zero h at line = refl
-step-last s (suc f) h at line = go (ltb at (length s)) (line_at s h at line) (λ k a l. step-last s f k a l)
-  where
-    go : (b : Bool) (r : Outcome Held) → ((k : Held) (a l : ℕ) → step_at s true f k a l ≡ end_left (rest_by s f k a l))
-        → cond b (on_step h r (step_at s true f)) (end_left (end_of h at line)) ≡ end_left (cond b (on_rest h r (rest_by s f)) (end_of h at line))
-    go true (read k a l) ih = ih k a l
-    go true (refused q) ih = refl
-    go false r ih = refl
-
-pub whole_is : (s : List ℕ) (lent : List ℤ) (k : Known) → k ≡ start → traverse_step s true (held k lent) 0 0 ≡ end_left (rest_at s (held start lent) 0 0)
-unfolding traverse_step rest_at
-whole_is s lent k e = rw e (step-last s (length s) (held start lent) 0 0)
-
-module _ (o : Leaves (Outcome Known)) (out : List ℤ) where
-  pub whole-refused : (q : Refusal) → leaves (Err q) out ≡ end_left o → leaves (Err q) out ≡ read_left o
-  unfolding traverse_read end_step
-  whole-refused q e = rw (ap (λ (y : Leaves (Result Progress Refusal)). y.numbers) e) (go o.answer (ap (λ (y : Leaves (Result Progress Refusal)). y.answer) e))
-    where
-      go : (a : Outcome Known) → Err q ≡ end_step a → leaves (Err q) o.numbers ≡ leaves (traverse_read a) o.numbers
-      go (read k a l) h = absurd cc
-      go (refused t) h = let z : q ≡ t = cc in rw z
-
-  -- more of the text is never asked for
-  pub whole-read : (p : Progress) (k : Known) → leaves (Ok p) out ≡ end_left o → (p ≡ progress.Read k) ⊎ ((c : Cursor) × (p ≡ progress.More c k))
-      → leaves (Ok (record { head = k.head; count = k.count })) out ≡ read_left o
-  unfolding traverse_read end_step
-  whole-read p k e q = rw (ap (λ (y : Leaves (Result Progress Refusal)). y.numbers) e) (go o.answer (ap (λ (y : Leaves (Result Progress Refusal)). y.answer) e) q)
-    where
-      go : (a : Outcome Known) → Ok p ≡ end_step a → (p ≡ progress.Read k) ⊎ ((c : Cursor) × (p ≡ progress.More c k))
-          → leaves (Ok (record { head = k.head; count = k.count })) o.numbers ≡ leaves (traverse_read a) o.numbers
-      go (read j a l) h (inl q) = let z : k ≡ j = cc in rw z
-      go (read j a l) h (inr (c, q)) = absurd cc
-      go (refused t) h q = absurd cc

@@ -93,7 +93,7 @@ module _ (s : List ℕ) where
     where
       go : (p : Result Progress Refusal) (l : List ℤ) → ((x : Held) (a l : ℕ) → a ≤ length s → traverse_done s (traverse_run s cuts x a l) ≡ read_left (rest_at s x a l))
           → Stands (at - from_of c at) (length s - from_of c at) p → traverse_done s (run_on (from_of c at) p l (traverse_run s cuts)) ≡ carried_by s (from_of c at) p l
-      go (Ok (progress.Read k)) l ih q = refl
+      go (Ok (progress.Read t)) l ih q = refl
       go (Ok (progress.More d k)) l ih q = ih (held k l) (from_of c at + d.at) d.line (omega arith)
       go (Err r) l ih q = refl
 
@@ -109,7 +109,7 @@ module _ (s : List ℕ) where
       go : (m : ℕ) (p : Result Progress Refusal) (l : List ℤ) → length s < at + (m + enough 33 cuts)
           → ((x : Held) (a l : ℕ) → a ≤ length s → length s < a + enough 33 cuts → traverse_run s cuts x a l ≡ done (read_left (rest_at s x a l)))
           → Stands (at - from_of c at + m) (length s - from_of c at) p → run_on (from_of c at) p l (traverse_run s cuts) ≡ done (carried_by s (from_of c at) p l)
-      go m (Ok (progress.Read k)) l f ih q = refl
+      go m (Ok (progress.Read t)) l f ih q = refl
       go m (Ok (progress.More d k)) l f ih q = ih (held k l) (from_of c at + d.at) d.line (omega arith) (omega arith)
       go m (Err r) l f ih q = refl
 

@@ -10,7 +10,7 @@ use Rattle.reader.specs.Traverse.{traverse_left, traverse_of, Held, traverse_ste
 use Rattle.reader.specs.declared.Cursor.{Cursor}
 use Rattle.reader.specs.declared.storm.Halt.{Halt}
 use Rattle.reader.specs.declared.storm.Halt.TheVariants as halt
-use Rattle.reader.specs.declared.traverse.Known.{Known}
+use Rattle.reader.specs.declared.traverse.TraverseRead.{TraverseRead}
 use Rattle.reader.specs.declared.traverse.Progress.TheVariants as progress
 
 -- ---- a record
@@ -71,8 +71,8 @@ TraverseSize = (w : List ℕ) (last : Bool) (h : Held) (at line : ℕ) → lengt
 -- where a step answers that the traverse was read, the lent numbers hold it
 abbrev pub StepHasTraverse : Type 0
 StepHasTraverse =
-    (w : List ℕ) (last : Bool) (h : Held) (at line : ℕ) (k : Known) → (traverse_step w last h at line).answer ≡ Ok (progress.Read k)
-    → HasTraverse k.count (traverse_step w last h at line).numbers
+    (w : List ℕ) (last : Bool) (h : Held) (at line : ℕ) (t : TraverseRead) → (traverse_step w last h at line).answer ≡ Ok (progress.Read t)
+    → HasTraverse t.count (traverse_step w last h at line).numbers
 
 -- numbers that have room for the most points: whatever stood in them, the answer and the points are those of the text
 abbrev pub TraverseIsRead : Type 0

@@ -1,7 +1,6 @@
 -- Document 01, "Files": the text of `traverse.txt`. Its points go into a slice that the caller lends, two numbers each: what is known of a
--- traverse is a small struct and that slice's numbers, and reading on is said of both. Assumes nothing.
+-- traverse is a small value and that slice's numbers, and reading on is said of both. Assumes nothing.
 use Rattle.std.specs.Prelude.{Result, Ok, Err, ℕ, zero, suc, ◌*◌, List, [], ◌∷◌, Bool, cond, length, take, replicate, ℤ, pos, ltb, eqb}
-use Rattle.records.specs.declared.Head.{Head}
 use Rattle.records.specs.declared.Station.{Station}
 use Rattle.records.specs.declared.Kind.TheVariants as kind
 use Rattle.records.specs.declared.Refusal.{Refusal}
@@ -12,9 +11,8 @@ use Rattle.records.specs.Shapes.{Traverse, traverse}
 use Rattle.reader.specs.Text.{more}
 use Rattle.reader.specs.Lines.{Outcome, read, refused, found, Leaves, leaves, LinesRead, lines_at, names_at, holds}
 use Rattle.reader.specs.declared.Cursor.{Cursor}
-use Rattle.reader.specs.declared.traverse.Part.{Part}
-use Rattle.reader.specs.declared.traverse.Part.TheVariants.{Names, Values, Columns, Points}
 use Rattle.reader.specs.declared.traverse.Known.{Known}
+use Rattle.reader.specs.declared.traverse.Known.TheVariants.{Names, Values, Columns, Points}
 use Rattle.reader.specs.declared.traverse.TraverseRead.{TraverseRead}
 use Rattle.reader.specs.declared.traverse.Progress.{Progress}
 use Rattle.reader.specs.declared.traverse.Progress.TheVariants as progress
@@ -37,29 +35,22 @@ abbrev pub held : Known → List ℤ → Held
 held k l = record { known = k; points = l }
 
 -- before the first line: nothing is known, and the first names line comes next
-abbrev pub no_head : Head
-no_head = record { latitude = pos 0; friction = pos 0; initial = pos 0 }
-
 unfoldable pub start : Known
-start = record { part = Names; head = no_head; count = 0 }
-
--- with another part next
-abbrev pub expecting : Part → Known → Known
-expecting p k = record { part = p; head = k.head; count = k.count }
+start = Names
 
 -- after the value line
-unfoldable pub with_values : List ℤ → Known → Known
-with_values v k = record { part = Columns; head = record { latitude = number_at v 0; friction = number_at v 1; initial = number_at v 2 }; count = k.count }
+unfoldable pub with_values : List ℤ → Known
+with_values v = Columns (record { latitude = number_at v 0; friction = number_at v 1; initial = number_at v 2 })
 
 -- after a point: it is stored where the lent numbers have room for it, otherwise it is only counted
 unfoldable pub stored_at : List ℤ → ℕ → Station → List ℤ
 stored_at l i x = cond (ltb i (station_count l)) (put_station l i x) l
 
-abbrev pub one_more : Known → Known
-one_more k = record { part = Points; head = k.head; count = more k.count }
+abbrev pub one_more : TraverseRead → TraverseRead
+one_more t = record { head = t.head; count = more t.count }
 
-unfoldable pub with_point : List ℤ → Held → Held
-with_point v h = held (one_more h.known) (stored_at h.points h.known.count (station_at v 0))
+unfoldable pub with_point : List ℤ → TraverseRead → List ℤ → Held
+with_point v t l = held (Points (one_more t)) (stored_at l t.count (station_at v 0))
 
 -- ---- a line
 
@@ -67,14 +58,14 @@ with_point v h = held (one_more h.known) (stored_at h.points h.known.count (stat
 abbrev pub value_line : List ℕ → ℕ → ℕ → ℕ → LinesRead
 value_line s width at line = lines_at s width 0 1 0 at line []
 
-abbrev pub line_by : List ℕ → Part → Held → ℕ → ℕ → Outcome Held
-line_by s Names h at line = found (names_at s head_names at line) (held (expecting Values h.known) h.points)
-line_by s Values h at line = found (value_line s 3 at line).answer (held (with_values (value_line s 3 at line).kept h.known) h.points)
-line_by s Columns h at line = found (names_at s point_names at line) (held (expecting Points h.known) h.points)
-line_by s Points h at line = found (value_line s 2 at line).answer (with_point (value_line s 2 at line).kept h)
+abbrev pub line_by : List ℕ → Known → List ℤ → ℕ → ℕ → Outcome Held
+line_by s Names l at line = found (names_at s head_names at line) (held Values l)
+line_by s Values l at line = found (value_line s 3 at line).answer (held (with_values (value_line s 3 at line).kept) l)
+line_by s (Columns h) l at line = found (names_at s point_names at line) (held (Points (record { head = h; count = 0 })) l)
+line_by s (Points t) l at line = found (value_line s 2 at line).answer (with_point (value_line s 2 at line).kept t l)
 
 unfoldable pub line_at : List ℕ → Held → ℕ → ℕ → Outcome Held
-line_at s h at line = line_by s h.known.part h at line
+line_at s h at line = line_by s h.known h.points at line
 
 -- in the code's terms: what the line makes of what is known
 abbrev pub line_step : Result Cursor Refusal → Known → Result (Cursor × Known) Refusal
@@ -88,50 +79,47 @@ line_left h (refused r) = leaves (Err r) h.points
 
 -- ---- the end of the text
 
--- once a point line was read: 3 if there was no point, 5 if there were too few or too many, 8 if they have no place in so many lent numbers
-unfoldable pub counted_by : ℕ → Known → ℕ → ℕ → Outcome Known
-counted_by room k at line =
-    cond (eqb k.count 0)
+-- after the points' names line: 3 if there was no point, 5 if there were too few or too many, 8 if they have no place in so many lent numbers
+unfoldable pub counted_by : ℕ → TraverseRead → ℕ → ℕ → Outcome TraverseRead
+counted_by room t at line =
+    cond (eqb t.count 0)
     (refused (refusal kind.Ended line))
-    (cond (count_ok most_points k.count)
-    (cond (ltb room k.count) (refused (refusal kind.Lent 0)) (read k at line))
-    (refused (refusal kind.Points k.count)))
+    (cond (count_ok most_points t.count)
+    (cond (ltb room t.count) (refused (refusal kind.Lent 0)) (read t at line))
+    (refused (refusal kind.Points t.count)))
 
 -- 1 if the text is empty, the traverse once its points were read, else 3 with the last line
-abbrev pub end_by : Part → ℕ → Known → ℕ → ℕ → Outcome Known
-end_by Names room k at line = refused (refusal kind.Names (more line))
-end_by Values room k at line = refused (refusal kind.Ended line)
-end_by Columns room k at line = refused (refusal kind.Ended line)
-end_by Points room k at line = counted_by room k at line
+unfoldable pub end_at : ℕ → Known → ℕ → ℕ → Outcome TraverseRead
+end_at room Names at line = refused (refusal kind.Names (more line))
+end_at room Values at line = refused (refusal kind.Ended line)
+end_at room (Columns h) at line = refused (refusal kind.Ended line)
+end_at room (Points t) at line = counted_by room t at line
 
-unfoldable pub end_at : ℕ → Known → ℕ → ℕ → Outcome Known
-end_at room k at line = end_by k.part room k at line
-
-abbrev pub end_of : Held → ℕ → ℕ → Leaves (Outcome Known)
+abbrev pub end_of : Held → ℕ → ℕ → Leaves (Outcome TraverseRead)
 end_of h at line = leaves (end_at (station_count h.points) h.known at line) h.points
 
 -- ---- the whole text
 
 -- after a line: the refusal, with the numbers as they are, or what follows
-abbrev pub on_rest : Held → Outcome Held → (Held → ℕ → ℕ → Leaves (Outcome Known)) → Leaves (Outcome Known)
+abbrev pub on_rest : Held → Outcome Held → (Held → ℕ → ℕ → Leaves (Outcome TraverseRead)) → Leaves (Outcome TraverseRead)
 on_rest h (read x at line) next = next x at line
 on_rest h (refused r) next = leaves (refused r) h.points
 
 -- what is left of the text, line by line from a place on; n lines are enough where no more bytes are left
-unfoldable pub rest_by : List ℕ → ℕ → Held → ℕ → ℕ → Leaves (Outcome Known)
+unfoldable pub rest_by : List ℕ → ℕ → Held → ℕ → ℕ → Leaves (Outcome TraverseRead)
 rest_by s zero h at line = end_of h at line
 rest_by s (suc n) h at line = cond (ltb at (length s)) (on_rest h (line_at s h at line) (rest_by s n)) (end_of h at line)
 
-unfoldable pub rest_at : List ℕ → Held → ℕ → ℕ → Leaves (Outcome Known)
+unfoldable pub rest_at : List ℕ → Held → ℕ → ℕ → Leaves (Outcome TraverseRead)
 rest_at s h at line = rest_by s (length s) h at line
 
 -- the answer for each case: what was read, or the refusal
-unfoldable pub traverse_read : Outcome Known → Result TraverseRead Refusal
-traverse_read (read k at line) = Ok (record { head = k.head; count = k.count })
+unfoldable pub traverse_read : Outcome TraverseRead → Result TraverseRead Refusal
+traverse_read (read t at line) = Ok t
 traverse_read (refused r) = Err r
 
 -- what a call leaves that reads the rest, and what one leaves that reads the whole text
-abbrev pub read_left : Leaves (Outcome Known) → Leaves (Result TraverseRead Refusal)
+abbrev pub read_left : Leaves (Outcome TraverseRead) → Leaves (Result TraverseRead Refusal)
 read_left x = leaves (traverse_read x.answer) x.numbers
 
 unfoldable pub traverse_left : List ℕ → List ℤ → Leaves (Result TraverseRead Refusal)
@@ -141,8 +129,8 @@ traverse_left s lent = read_left (rest_at s (held start lent) 0 0)
 abbrev pub no_points : List ℤ
 no_points = replicate 130 (pos 0)
 
-abbrev pub traverse_by : Outcome Known → List ℤ → Outcome Traverse
-traverse_by (read k at line) points = read (traverse k.head (take (2 * k.count) points)) at line
+abbrev pub traverse_by : Outcome TraverseRead → List ℤ → Outcome Traverse
+traverse_by (read t at line) points = read (traverse t.head (take (2 * t.count) points)) at line
 traverse_by (refused r) points = refused r
 
 unfoldable pub traverse_of : List ℕ → Outcome Traverse
@@ -151,11 +139,11 @@ traverse_of s = traverse_by (rest_at s (held start no_points) 0 0).answer (rest_
 -- ---- windows: w is a part of the text, and `last` says whether the text ends with it
 
 -- the step's answer where the text has ended or a line is refused
-unfoldable pub end_step : Outcome Known → Result Progress Refusal
-end_step (read k at line) = Ok (progress.Read k)
+unfoldable pub end_step : Outcome TraverseRead → Result Progress Refusal
+end_step (read t at line) = Ok (progress.Read t)
 end_step (refused r) = Err r
 
-abbrev pub end_left : Leaves (Outcome Known) → Leaves (Result Progress Refusal)
+abbrev pub end_left : Leaves (Outcome TraverseRead) → Leaves (Result Progress Refusal)
 end_left x = leaves (end_step x.answer) x.numbers
 
 -- after a line: the refusal, or what follows

@@ -27,7 +27,7 @@ moved o (refused r) = refused r
 
 -- what a step on a traverse text comes to: what it leaves, or what the rest of the text from where it stopped leaves
 abbrev pub carried_by : List ℕ → ℕ → Result Progress Refusal → List ℤ → Leaves (Result TraverseRead Refusal)
-carried_by s o (Ok (progress.Read k)) l = leaves (Ok (record { head = k.head; count = k.count })) l
+carried_by s o (Ok (progress.Read t)) l = leaves (Ok t) l
 carried_by s o (Ok (progress.More c k)) l = read_left (rest_at s (held k l) (o + c.at) c.line)
 carried_by s o (Err r) l = leaves (Err r) l
 
@@ -61,7 +61,7 @@ pub data TraverseRun : Type 0 where
 
 -- after a step: what it leaves, or on with the next window
 abbrev pub run_on : ℕ → Result Progress Refusal → List ℤ → (Held → ℕ → ℕ → TraverseRun) → TraverseRun
-run_on o (Ok (progress.Read k)) l next = done (leaves (Ok (record { head = k.head; count = k.count })) l)
+run_on o (Ok (progress.Read t)) l next = done (leaves (Ok t) l)
 run_on o (Ok (progress.More c k)) l next = next (held k l) (o + c.at) c.line
 run_on o (Err r) l next = done (leaves (Err r) l)
 

@@ -13,7 +13,7 @@ ghost use Rattle.reader.specs.Lines.{leaves, repeated, none_kept, kept_left, lin
 
 use records::{Kind, Refusal, need};
 pub use storm::{Halt, storm_start, storm_start_step};
-pub use traverse::{Known, Part, Progress, TraverseRead, read_traverse};
+pub use traverse::{Known, Progress, TraverseRead, read_traverse};
 
 // The most digits of a value.
 const DIGITS: u64 = 9;

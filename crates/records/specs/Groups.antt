@@ -1,5 +1,5 @@
 -- Groups of numbers in a list: how many there are, what one stands for, and the list with one of them written.
-use Rattle.std.specs.Prelude.{cond, List, [], ◌∷◌, ◌++◌, ℕ, zero, suc, ◌+◌, ◌*◌, ◌%◌, ◌/◌, eqb, length, get_or, ℤ, pos}
+use Rattle.std.specs.Prelude.{◌≡◌, cond, List, [], ◌∷◌, ◌++◌, ℕ, zero, suc, ◌+◌, ◌*◌, ◌%◌, ◌/◌, ◌<◌, eqb, length, get_or, ℤ, pos}
 use Rattle.std.proofs.lemmas.List.Edits.{sets}
 use Rattle.ranges.specs.declared.Range.{Range}
 use Rattle.records.specs.declared.Head.{Head}
@@ -27,6 +27,13 @@ group_at view n l i = view (from l (n * i))
 
 unfoldable pub put_group : {A : Type 0} → (A → List ℤ) → ℕ → List ℤ → ℕ → A → List ℤ
 put_group numbers n l i x = sets l (n * i) (numbers x)
+
+-- what is asked of n numbers that stand for one of A: no number past its own is looked at, and what is written reads back
+pub record GroupLaws (A : Type 0) (n : ℕ) (view : (ℕ → ℤ) → A) (numbers : A → List ℤ) : Type 0 where
+  pub some : 0 < n
+  pub near : (f g : ℕ → ℤ) → ((k : ℕ) → k < n → f k ≡ g k) → view f ≡ view g
+  pub back : (x : A) → view (at (numbers x)) ≡ x
+  pub long : (x : A) → length (numbers x) ≡ n
 
 -- ---- what a traverse has beside its points: latitude, friction, initial level
 

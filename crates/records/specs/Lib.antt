@@ -3,6 +3,7 @@ pub mod Refusals
 pub mod CheckOrder
 pub mod Places
 pub mod Groups
+pub mod GroupsLaws
 pub mod Rows
 pub mod Shapes
 pub mod Limits

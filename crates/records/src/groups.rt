@@ -1,8 +1,8 @@
 // A group of numbers in a slice, read into a struct or written from one. All index arithmetic of groups stands here, once for every kind of group.
-ghost use Rattle.std.specs.Prelude.{◌≡◌, ℕ, ℤ, List, ◌+◌, ◌*◌, ◌<◌, ◌≤◌, length, refl};
-ghost use Rattle.std.proofs.Common.{rules};
+ghost use Rattle.std.specs.Prelude.{◌≡◌, ℕ, ℤ, List, ◌+◌, ◌*◌, ◌<◌, ◌≤◌, length};
 ghost use Rattle.records.specs.Places.{Gives};
-ghost use Rattle.records.specs.Groups.{at, wholes, groups, flat, group_at, put_group, head_of, of_head, closing_of, of_closing, station_of, of_station, point_of, of_point, row_of, of_row, range_of, of_range};
+ghost use Rattle.records.specs.Groups.{GroupLaws, at, wholes, groups, flat, group_at, put_group, head_of, of_head, closing_of, of_closing, station_of, of_station, point_of, of_point, row_of, of_row, range_of, of_range};
+ghost use Rattle.records.specs.GroupsLaws.{head-laws, closing-laws, station-laws, point-laws, row-laws, range-laws};
 
 use super::{Closing, Head, Point, Row, Station};
 use ranges::Range;
@@ -26,15 +26,8 @@ pub trait Group: Copy {
         requires { length list.old ≡ NUMBERS }
         ensures { list.new ≡ numbers self };
 
-    ghost some: { 0 < NUMBERS };
-
-    // No number past its own is looked at.
-    ghost near: { (f g : ℕ → ℤ) → ((k : ℕ) → k < NUMBERS → f k ≡ g k) → of_numbers f ≡ of_numbers g };
-
-    // What is written reads back.
-    ghost back: { (x : Self) → of_numbers (at (numbers x)) ≡ x };
-
-    ghost long: { (x : Self) → length (numbers x) ≡ NUMBERS };
+    // No number past its own is looked at, and what is written reads back.
+    ghost laws: { GroupLaws Self NUMBERS of_numbers numbers };
 }
 
 // How many groups so many numbers are; a length that is no multiple counts as none.
@@ -86,13 +79,7 @@ impl Group for Head {
 
     ghost numbers = { of_head };
 
-    ghost some = { Prim.search rules };
-
-    ghost near = { λ f g h. Prim.rw (h 0 (Prim.search rules), h 1 (Prim.search rules), h 2 (Prim.search rules)) refl };
-
-    ghost back = { λ x. refl };
-
-    ghost long = { λ x. refl };
+    ghost laws = { head-laws };
 
     fn read(list: &[i64]) -> Self {
         Head {
@@ -116,13 +103,7 @@ impl Group for Closing {
 
     ghost numbers = { of_closing };
 
-    ghost some = { Prim.search rules };
-
-    ghost near = { λ f g h. Prim.rw (h 0 (Prim.search rules), h 1 (Prim.search rules)) refl };
-
-    ghost back = { λ x. refl };
-
-    ghost long = { λ x. refl };
+    ghost laws = { closing-laws };
 
     fn read(list: &[i64]) -> Self {
         Closing {
@@ -145,13 +126,7 @@ impl Group for Station {
 
     ghost numbers = { of_station };
 
-    ghost some = { Prim.search rules };
-
-    ghost near = { λ f g h. Prim.rw (h 0 (Prim.search rules), h 1 (Prim.search rules)) refl };
-
-    ghost back = { λ x. refl };
-
-    ghost long = { λ x. refl };
+    ghost laws = { station-laws };
 
     fn read(list: &[i64]) -> Self {
         Station {
@@ -174,13 +149,7 @@ impl Group for Point {
 
     ghost numbers = { of_point };
 
-    ghost some = { Prim.search rules };
-
-    ghost near = { λ f g h. Prim.rw (h 0 (Prim.search rules), h 1 (Prim.search rules), h 2 (Prim.search rules)) refl };
-
-    ghost back = { λ x. refl };
-
-    ghost long = { λ x. refl };
+    ghost laws = { point-laws };
 
     fn read(list: &[i64]) -> Self {
         Point {
@@ -204,13 +173,7 @@ impl Group for Row {
 
     ghost numbers = { of_row };
 
-    ghost some = { Prim.search rules };
-
-    ghost near = { λ f g h. Prim.rw (h 0 (Prim.search rules), h 1 (Prim.search rules), h 2 (Prim.search rules)) refl };
-
-    ghost back = { λ x. refl };
-
-    ghost long = { λ x. refl };
+    ghost laws = { row-laws };
 
     fn read(list: &[i64]) -> Self {
         Row {
@@ -234,13 +197,7 @@ impl Group for Range {
 
     ghost numbers = { of_range };
 
-    ghost some = { Prim.search rules };
-
-    ghost near = { λ f g h. Prim.rw (h 0 (Prim.search rules), h 1 (Prim.search rules)) refl };
-
-    ghost back = { λ x. refl };
-
-    ghost long = { λ x. refl };
+    ghost laws = { range-laws };
 
     fn read(list: &[i64]) -> Self {
         Range {

@@ -96,7 +96,7 @@ pub const SETUP: Range = Range {
 pub fn inside(x: i64, limits: Range) -> bool
     ensures { result ≡ inside limits.low limits.high x }
 {
-    limits.low <= x && x <= limits.high
+    (limits.low..=limits.high).contains(&x)
 }
 
 // Both ends of a range.

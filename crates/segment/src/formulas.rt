@@ -34,59 +34,72 @@ const GAIN_UNIT: i64 = 1_000_000_000;
 // A deficit at the shore, 0.01 inch of mercury, in 0.0001 ft: equation 33's 1.14 ft per inch.
 const SHORE_DEFICIT: i64 = 114;
 
-// Water depth in 0.01 ft. `setup` is this record's, before the segment.
-pub fn depth_range(site: Site, weather: Weather, setup: Range) -> Range
-    requires { (SiteIn site) × (WeatherIn weather) × (SetupIn setup) }
-    ensures { result ≡ depth_of site weather setup }
-{
-    let base = HALF_DEPTHS * site.depths
-        + LEVEL_UNIT * weather.level
-        + HALF_DEFICITS * weather.deficits;
-    let top = Range {
-        low: base + setup.low,
-        high: base + setup.high,
-    };
-    let bottom = Range {
-        low: WATER_UNIT,
-        high: WATER_UNIT,
-    };
-    ranges::quotient(top, bottom)
+// One segment in one step: what the traverse gives it, and what the step does, both within document 01's limits.
+#[derive(Clone, Copy, Debug, PartialEq, Eq)]
+struct Segment {
+    site: Site,
+    weather: Weather,
+    ghost site_in: { SiteIn site },
+    ghost weather_in: { WeatherIn weather },
 }
 
-// The new flux in 0.01 ft²/s. In the first record the row's flux stays.
-pub fn flux_range(first: bool, site: Site, weather: Weather, row: Row, depth: Range) -> Range
-    requires { (SiteIn site) × (WeatherIn weather) × (RowIn row) × (water_ok depth ≡ true) }
-    ensures { result ≡ flux_of first site weather row depth }
-{
-    let old = row.flux();
-    if first {
-        return old;
+impl Segment {
+    // Water depth in 0.01 ft. `setup` is this record's, before the segment.
+    fn depth_range(self, setup: Range) -> Range
+        requires { SetupIn setup }
+        ensures { result ≡ depth_of self.site self.weather setup }
+    {
+        let base = HALF_DEPTHS * self.site.depths
+            + LEVEL_UNIT * self.weather.level
+            + HALF_DEFICITS * self.weather.deficits;
+        let top = Range {
+            low: base + setup.low,
+            high: base + setup.high,
+        };
+        let bottom = Range {
+            low: WATER_UNIT,
+            high: WATER_UNIT,
+        };
+        ranges::quotient(top, bottom)
     }
-    let force = forcing::force(false, weather.seconds, row.cross, weather.cross);
-    ranges::damped(site.friction * weather.seconds, old, force, depth)
-}
 
-// The gain's numerator at one flux: X·(2,748,816·s·v + 2,030·Y).
-pub fn gain_top(site: Site, weather: Weather, flux: i64) -> i64
-    requires { (SiteIn site) × (WeatherIn weather) × (Sized (pos 1000000) flux) }
-    ensures { result ≡ gain_top site weather flux }
-{
-    site.length * (TURNING * site.sine * flux + WIND * weather.onshore)
-}
+    // The new flux in 0.01 ft²/s. In the first record the row's flux stays.
+    fn flux_range(self, first: bool, row: Row, depth: Range) -> Range
+        requires { (RowIn row) × (water_ok depth ≡ true) }
+        ensures { result ≡ flux_of first self.site self.weather row depth }
+    {
+        let old = row.flux();
+        if first {
+            return old;
+        }
+        let Weather { seconds, cross, .. } = self.weather;
+        let force = forcing::force(false, seconds, row.cross, cross);
+        ranges::damped(self.site.friction * seconds, old, force, depth)
+    }
 
-// How much the setup grows over the segment, in 0.0001 ft. `flux` is the new one.
-pub fn gain_range(site: Site, weather: Weather, flux: Range, depth: Range) -> Range
-    requires { (SiteIn site) × (WeatherIn weather) × (flux_ok flux ≡ true) × (water_ok depth ≡ true) }
-    ensures { result ≡ gain_of site weather flux depth }
-{
-    let low = gain_top(site, weather, flux.low);
-    let high = gain_top(site, weather, flux.high);
-    let top = Range { low, high };
-    let bottom = Range {
-        low: GAIN_UNIT * depth.low,
-        high: GAIN_UNIT * depth.high,
-    };
-    ranges::quotient(top, bottom)
+    // The gain's numerator at one flux: X·(2,748,816·s·v + 2,030·Y).
+    fn gain_top(self, flux: i64) -> i64
+        requires { Sized (pos 1000000) flux }
+        ensures { result ≡ gain_top self.site self.weather flux }
+    {
+        let Site { length, sine, .. } = self.site;
+        length * (TURNING * sine * flux + WIND * self.weather.onshore)
+    }
+
+    // How much the setup grows over the segment, in 0.0001 ft. `flux` is the new one.
+    fn gain_range(self, flux: Range, depth: Range) -> Range
+        requires { (flux_ok flux ≡ true) × (water_ok depth ≡ true) }
+        ensures { result ≡ gain_of self.site self.weather flux depth }
+    {
+        let low = self.gain_top(flux.low);
+        let high = self.gain_top(flux.high);
+        let top = Range { low, high };
+        let bottom = Range {
+            low: GAIN_UNIT * depth.low,
+            high: GAIN_UNIT * depth.high,
+        };
+        ranges::quotient(top, bottom)
+    }
 }
 
 // The setup for the next segment: low plus low, high plus high.
@@ -127,14 +140,15 @@ pub fn march_segment(
     requires { SegmentIn site weather row setup }
     ensures { result ≡ segment_of place first site weather row setup }
 {
-    let depth = depth_range(site, weather, setup);
+    let segment = Segment { site, weather };
+    let depth = segment.depth_range(setup);
     need(range_inside(depth, WATER), Refusal::new(Kind::Depth, place))?;
-    let flux = flux_range(first, site, weather, row, depth);
+    let flux = segment.flux_range(first, row, depth);
     need(
         range_inside(flux, Row::FLUX),
         Refusal::new(Kind::Flux, place),
     )?;
-    let gain = gain_range(site, weather, flux, depth);
+    let gain = segment.gain_range(flux, depth);
     let next = next_setup(setup, gain);
     need(range_inside(next, SETUP), Refusal::new(Kind::Setup, place))?;
     Ok(leg_of(flux, weather.cross, next))

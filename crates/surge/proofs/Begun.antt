@@ -14,7 +14,7 @@ use Rattle.march.specs.Answers.{ToldOpen, opened, not_opened}
 use Rattle.march.specs.Checks.{open_of}
 use Rattle.hydrograph.specs.declared.Turn.{Turn}
 use Rattle.hydrograph.specs.declared.Turn.TheVariants as turn
-use Rattle.hydrograph.specs.declared.Turned.{Turned}
+use Rattle.hydrograph.specs.declared.Run.{Run}
 use Rattle.hydrograph.specs.Turns.{line_room, said_open, begin_of, LeftTurn, left_turn, printed, turn_left, fresh_run}
 use Rattle.surge.specs.Printed.{begin_on, AfterBegin, Prints}
 use Rattle.surge.proofs.TurnEnds.{written-within}
@@ -29,33 +29,29 @@ module _ (t : Traverse) (out : List ℕ) (room : line_room ≤ length out) where
   begin-is = rw (le-leb (0 + line_room) (length out) (omega arith))
 
   -- the cursor stands at the start, and the place is within the buffer
-  abbrev pub Begun : LeftTurn → Turn → Type 0
-  Begun l (turn.Line k) = (k ≤ length out) × (l.run.cursor.at ≤ 0)
-  Begun l (turn.End k) = k ≤ length out
-  Begun l turn.More = ⊥
-  Begun l turn.Full = ⊥
+  abbrev pub Begun : Turn → Run → Type 0
+  Begun (turn.Line k) run = (k ≤ length out) × (run.cursor.at ≤ 0)
+  Begun (turn.End k) run = k ≤ length out
+  Begun turn.More run = ⊥
+  Begun turn.Full run = ⊥
 
-  pub begin-begun : (x : Turned) (out' : List ℕ) → left_turn x [] [] out' ≡ begin_on t out → length out' ≡ length out → (k : Turn) → x.turn ≡ k → Begun (left_turn x [] [] out') k
-  begin-begun x out' e n k f =
-      let g : left_turn x [] [] out' ≡ begun_by (open_of most_points t).answer = e ∙ begin-is in
-      subst (Begun (left_turn x [] [] out')) f
-      (subst (λ (l : LeftTurn). Begun l l.turn) (sym g) (by (open_of most_points t).answer (ap (λ (l : LeftTurn). length l.out) (sym g) ∙ n)))
+  pub begin-begun : (k : Turn) (run : Run) (out' : List ℕ) → left_turn k run [] [] out' ≡ begin_on t out → length out' ≡ length out → Begun k run
+  begin-begun k run out' e n =
+      let g : left_turn k run [] [] out' ≡ begun_by (open_of most_points t).answer = e ∙ begin-is in
+      subst (λ (l : LeftTurn). Begun l.turn l.run) (sym g) (by (open_of most_points t).answer (ap (λ (l : LeftTurn). length l.out) (sym g) ∙ n))
     where
-      by : (told : ToldOpen) → length (begun_by told).out ≡ length out → Begun (begun_by told) (begun_by told).turn
+      by : (told : ToldOpen) → length (begun_by told).out ≡ length out → Begun (begun_by told).turn (begun_by told).run
       by opened q = (written-within names_line 0 out (omega arith) q, omega arith)
       by (not_opened number place) q = written-within (refused_line number place) 0 out (omega arith) q
 
   -- what was done, from the case of the answer
-  pub prints : (x : Turned) (out₁ : List ℕ) → left_turn x [] [] out₁ ≡ begin_on t out → (k : Turn) → x.turn ≡ k → (wrote : Bool) (window : List ℕ) (numbers rows : List ℤ) (waits : ℕ) (window' : List ℕ) (numbers' rows' : List ℤ) (out' : List ℕ)
-      → AfterBegin t window numbers rows waits window' numbers' rows' out' k wrote (left_turn x [] [] out₁) → Prints t window numbers rows out waits window' numbers' rows' out'
-  prints x out₁ e k f wrote window numbers rows waits window' numbers' rows' out' m =
-      record {
-        wrote = wrote;
-        after = subst (λ (l : LeftTurn). AfterBegin t window numbers rows waits window' numbers' rows' out' l.turn wrote l) e
-            (subst (λ (z : Turn). AfterBegin t window numbers rows waits window' numbers' rows' out' z wrote (left_turn x [] [] out₁)) (sym f) m);
-      }
+  pub prints : (k : Turn) (run : Run) (out₁ : List ℕ) → left_turn k run [] [] out₁ ≡ begin_on t out → (wrote : Bool) (window : List ℕ) (numbers rows : List ℤ) (waits : ℕ) (window' : List ℕ) (numbers' rows' : List ℤ) (out' : List ℕ)
+      → AfterBegin t window numbers rows waits window' numbers' rows' out' k wrote (left_turn k run [] [] out₁) → Prints t window numbers rows out waits window' numbers' rows' out'
+  prints k run out₁ e wrote window numbers rows waits window' numbers' rows' out' m =
+      record { wrote = wrote; after = subst (λ (l : LeftTurn). AfterBegin t window numbers rows waits window' numbers' rows' out' l.turn wrote l) e m }
 
--- of what `begin` promises
-pub begun-told : (t : Traverse) (out : List ℕ) (x : Turned) (out' : List ℕ) → left_turn x [] [] out' ≡ turn_left (record { said = begin_of t []; numbers = [] }) fresh_run [] [] out 0 → left_turn x [] [] out' ≡ begin_on t out
+-- of what `begin` promises, in the case k of its answer
+pub begun-told : (t : Traverse) (out out' : List ℕ) (j k : Turn) (run : Run) → left_turn j run [] [] out' ≡ turn_left (record { said = begin_of t []; numbers = [] }) fresh_run [] [] out 0 → j ≡ k
+    → left_turn k run [] [] out' ≡ begin_on t out
 unfolding begin_on
-begun-told t out x out' e = e
+begun-told t out out' j k run e f = rw f at e

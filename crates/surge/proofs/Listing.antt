@@ -17,7 +17,6 @@ use Rattle.records.specs.declared.Row.{Row}
 use Rattle.records.specs.Shapes.{Traverse, count}
 use Rattle.records.proofs.GroupLaws.{groups-length}
 use Rattle.records.proofs.GroupLaws.{wholes-times}
-use Rattle.reader.specs.declared.traverse.Known.{Known}
 use Rattle.reader.specs.declared.traverse.TraverseRead.{TraverseRead}
 use Rattle.reader.specs.Lines.{Outcome, read, refused, Leaves, leaves}
 use Rattle.reader.specs.Traverse.{held, start, no_points, rest_at, traverse_read, traverse_left, traverse_by, traverse_of}
@@ -109,7 +108,7 @@ listing-left : (s storm : List ℕ) (points : List ℤ) (x : Result TraverseRead
 unfolding listing_of traverse_of traverse_left traverse_read
 listing-left s storm points x e = go (rest_at s (held start no_points) 0 0).answer e
   where
-    go : (o : Outcome Known) → leaves (traverse_read o) (rest_at s (held start no_points) 0 0).numbers ≡ leaves x points
+    go : (o : Outcome TraverseRead) → leaves (traverse_read o) (rest_at s (held start no_points) 0 0).numbers ≡ leaves x points
         → after_traverse (traverse_by o (rest_at s (held start no_points) 0 0).numbers) storm ≡ listed storm x points
     go (read k at line) p = ap (λ (y : Leaves (Result TraverseRead Refusal)). listed storm y.answer y.numbers) p
     go (refused r) p = ap (λ (y : Leaves (Result TraverseRead Refusal)). listed storm y.answer y.numbers) p

@@ -18,7 +18,6 @@ use Rattle.files.proofs.Asks.{holds_not}
 use Rattle.hydrograph.specs.declared.Turn.{Turn}
 use Rattle.hydrograph.specs.declared.Turn.TheVariants as turn
 use Rattle.hydrograph.specs.declared.Run.{Run}
-use Rattle.hydrograph.specs.declared.Turned.{Turned}
 use Rattle.hydrograph.specs.Turns.{Said, more, reads, says, ends, quiet, Heard, turn_heard, line_room, LeftTurn, left_turn, printed, turn_left}
 use Rattle.hydrograph.proofs.RecordRead.{turn-seen}
 use Rattle.hydrograph.proofs.Tells.{Advances, turn-advances}
@@ -70,37 +69,36 @@ module _ (size used : ℕ) (last : Bool) (run : Run) (numbers rows : List ℤ) (
       go false f e = record { cursor = h; place = omega (arith, leb-false (used + line_room) (length out) f) }
 
 -- of what `storm_turn` promises
-module _ (t : Traverse) (a : Memory) (x : Turned) (numbers' rows' : List ℤ) (out' : List ℕ) where
+module _ (t : Traverse) (a : Memory) (k : Turn) (run : Run) (numbers' rows' : List ℤ) (out' : List ℕ) where
   abbrev pub Told : Type 0
-  Told = left_turn x numbers' rows' out' ≡ turn_left (turn_heard t (take a.standing.window.have a.window) a.standing.window.last a.standing.run.cursor.at a.standing.run.cursor.line a.standing.run.state a.rows a.numbers) a.standing.run a.numbers a.rows a.out a.standing.used
+  Told = left_turn k run numbers' rows' out' ≡ turn_left (turn_heard t (take a.standing.window.have a.window) a.standing.window.last a.standing.run.cursor.at a.standing.run.cursor.line a.standing.run.state a.rows a.numbers) a.standing.run a.numbers a.rows a.out a.standing.used
 
-  pub turn_is : Told → left_turn x numbers' rows' out' ≡ turn_on t a
+  pub turn_is : Told → left_turn k run numbers' rows' out' ≡ turn_on t a
   unfolding turn_on
   turn_is e = e
 
   pub turn-stays : a.standing.window.have ≤ length a.window → a.standing.run.cursor.at ≤ a.standing.window.have → a.standing.used ≤ length a.out → line_room ≤ length a.out
       → record_size (count t) ≤ length a.numbers → length out' ≡ length a.out → Told
-      → (x.run.cursor.at ≤ a.standing.window.have) × Placed a.standing.window.have (length a.out) x.run.cursor.at a.standing.used x.turn
-  turn-stays f h u r n k e =
+      → (run.cursor.at ≤ a.standing.window.have) × Placed a.standing.window.have (length a.out) run.cursor.at a.standing.used k
+  turn-stays f h u r n m e =
       let s = a.standing in
       let w = take s.window.have a.window in
       let long = length-take-le s.window.have a.window f in
-      let m = subst (Advances (length w) s.window.last s.run.cursor.at s.run.cursor.line) (sym (turn-seen t w s.window.last s.run.cursor.at s.run.cursor.line s.run.state a.rows a.numbers n)) (turn-advances w s.window.last t s.run.cursor.at s.run.cursor.line s.run.state a.rows) in
+      let moves = subst (Advances (length w) s.window.last s.run.cursor.at s.run.cursor.line) (sym (turn-seen t w s.window.last s.run.cursor.at s.run.cursor.line s.run.state a.rows a.numbers n)) (turn-advances w s.window.last t s.run.cursor.at s.run.cursor.line s.run.state a.rows) in
       let y = subst (Ends (length w) (length a.out) s.used) (sym e)
-      (left-ends (length w) s.used s.window.last s.run a.numbers a.rows a.out (omega arith) u _ m r (ap (λ (l : LeftTurn). length l.out) (sym e) ∙ k)) in
-      subst (λ (n : ℕ). (x.run.cursor.at ≤ n) × Placed n (length a.out) x.run.cursor.at s.used x.turn) long (y.cursor, y.place)
+      (left-ends (length w) s.used s.window.last s.run a.numbers a.rows a.out (omega arith) u _ moves r (ap (λ (l : LeftTurn). length l.out) (sym e) ∙ m)) in
+      subst (λ (n : ℕ). (run.cursor.at ≤ n) × Placed n (length a.out) run.cursor.at s.used k) long (y.cursor, y.place)
 
   -- how the program stands, and what was done, from the case of the answer
-  pub after : Told → (k : Turn) → x.turn ≡ k → (flow : ControlFlow ℕ Standing) (window out : List ℕ) → Stands (left_by flow a.standing x.run) (length window) (length out)
-      → Moves k (left_turn x numbers' rows' out') a (memory (left_by flow a.standing x.run) (goes_on flow) window numbers' rows' out) → AfterTurn t a flow window numbers' rows' out
-  after e k f flow window out s m =
+  pub after : Told → (flow : ControlFlow ℕ Standing) (window out : List ℕ) → Stands (left_by flow a.standing run) (length window) (length out)
+      → Moves k (left_turn k run numbers' rows' out') a (memory (left_by flow a.standing run) (goes_on flow) window numbers' rows' out) → AfterTurn t a flow window numbers' rows' out
+  after e flow window out s m =
       record {
         stands = subst (λ (l : LeftTurn). Stands (left_by flow a.standing l.run) (length window) (length out)) (turn_is e) s;
         moved = record {
           record-left = ap (λ (l : LeftTurn). l.numbers) (turn_is e);
           rows_left = ap (λ (l : LeftTurn). l.rows) (turn_is e);
-          moves = subst (λ (l : LeftTurn). Moves l.turn l a (memory (left_by flow a.standing l.run) (goes_on flow) window numbers' rows' out)) (turn_is e)
-              (subst (λ (z : Turn). Moves z (left_turn x numbers' rows' out') a (memory (left_by flow a.standing x.run) (goes_on flow) window numbers' rows' out)) (sym f) m);
+          moves = subst (λ (l : LeftTurn). Moves l.turn l a (memory (left_by flow a.standing l.run) (goes_on flow) window numbers' rows' out)) (turn_is e) m;
         };
       }
 

@@ -53,12 +53,6 @@ pub record Room (window : List ℕ) (t : Traverse) (numbers : List ℤ) (out : L
   pub record-holds : record_size (count t) ≤ length numbers
   pub out-holds : line_room ≤ length out
 
--- when the turns may begin: the cursor at the start
-pub record Starts (run : Run) (used : ℕ) (window : List ℕ) (t : Traverse) (numbers : List ℤ) (out : List ℕ) : Type 0 where
-  pub place : run.cursor.at ≤ 0
-  pub waits : used ≤ length out
-  pub room : Room window t numbers out
-
 -- a run with its cursor at the front of the window
 abbrev pub front_of : Run → Run
 front_of run = record { cursor = record { at = 0; line = run.cursor.line }; state = run.state }

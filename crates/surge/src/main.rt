@@ -1,24 +1,24 @@
 // The program: it reads `traverse.txt` and then `storm.txt` in the current folder, each through a window of 65,536 bytes, and prints the
 // listing. What is printed is decided by `hydrograph` and the crates below it; here bytes are moved. `main` owns the window, the output and the
-// numbers of points, record and rows, and lends them down. A file that cannot be opened counts as empty text. A read or a write that fails is
-// told on standard error; after a read that failed what waits is printed with the line `failed` behind it, after a write nothing more.
+// numbers of points, record and rows, and lends them down; what a storm is lent of them is the struct `Storm`. A file that cannot be opened counts
+// as empty text. A read or a write that fails is told on standard error; after a read that failed what waits is printed with the line `failed`
+// behind it, after a write nothing more.
 #![tactic(auto)]
 
 ghost use Rattle.std.specs.Prelude.{◌≡◌, true, ◌+◌, ◌≤◌, length, is_some};
 ghost use Rattle.records.specs.Shapes.{traverse_of};
 ghost use Rattle.hydrograph.specs.Turns.{line_room};
 ghost use Rattle.files.specs.Filled.{Refills, Flushes};
-ghost use Rattle.surge.specs.Standing.{Lent, Stands, Room, Starts, front_of, standing_with, left_by, goes_on, AfterRefill, went_out, ReadFrom, memory, AfterTurn};
-ghost use Rattle.surge.specs.Printed.{Marches, AfterNames, Prints, Runs};
+ghost use Rattle.surge.specs.Standing.{Lent, Stands, Room, front_of, standing_with, left_by, goes_on, AfterRefill, went_out, ReadFrom};
+ghost use Rattle.surge.specs.Printed.{Prints, Runs};
 
-use files::{Failed, Held, Stop, TURNS};
+use files::{Failed, Held, Source, Stop, TURNS};
 use hydrograph::{Run, Turn};
 use listing::Line;
 use reader::{Cursor, Window};
 use records::groups::Group;
 use records::limits::{POINTS_MOST, SEGMENTS_MOST};
 use records::{Closing, Point, Row, Station, Traverse};
-use std::fs::File;
 use std::ops::ControlFlow;
 
 // How the program stands between two turns: the run, whose cursor is in the window; the window; and how many bytes wait to be printed.
@@ -64,22 +64,6 @@ fn after_refill(
     }
 }
 
-// More of the storm, where the window does not hold what comes next.
-fn refilled(
-    rt: &HostRuntime,
-    file: &mut Option<File>,
-    buf: &mut [u8],
-    x: Standing,
-    run: Run,
-    out: &mut [u8],
-) -> ControlFlow<usize, Standing>
-    requires { Refills run.cursor.at x.window.have (length buf.old) × (x.used + line_room ≤ length out.old) }
-    ensures { ReadFrom run x result buf.old buf.new out.old out.new }
-{
-    let answer = files::refill(rt, "storm.txt", file, buf, run.cursor.at, x.window.have);
-    after_refill(x, run, answer, out)
-}
-
 // Nothing waits after a write of what waited; where it failed, no more comes.
 fn after_write(x: Standing, run: Run, answer: Result<usize, Failed>) -> ControlFlow<usize, Standing>
     requires { Flushes answer x.used }
@@ -96,98 +80,114 @@ fn after_write(x: Standing, run: Run, answer: Result<usize, Failed>) -> ControlF
     }
 }
 
-// One turn, and what it asks for.
-fn turn(
-    rt: &HostRuntime,
-    file: &mut Option<File>,
-    buf: &mut [u8],
-    traverse: Traverse,
-    x: Standing,
-    numbers: &mut [i64],
-    rows: &mut [i64],
-    out: &mut [u8],
-) -> ControlFlow<usize, Standing>
-    requires stands { Stands x (length buf.old) (length out.old) }
-    requires room { Room buf.old (traverse_of traverse) numbers.old out.old }
-    ensures { AfterTurn (traverse_of traverse.entry) (memory x true buf.old numbers.old rows.old out.old) result buf.new numbers.new rows.new out.new }
-{
-    let text = Window {
-        bytes: &buf[..x.window.have],
-        last: x.window.last,
-    };
-    let turned = hydrograph::storm_turn(traverse, x.run, text, numbers, rows, out, x.used);
-    let run = turned.run;
-    match turned.turn {
-        Turn::More => refilled(rt, file, buf, x, run, out),
-        Turn::Line(used) => ControlFlow::Continue(Standing { run, used, ..x }),
-        Turn::End(used) => ControlFlow::Break(used),
-        // What waits is written, and the turn is made again with the whole buffer.
-        Turn::Full => after_write(x, run, files::flush(rt, &out[..x.used])),
+// ---- the storm
+
+// What the program is lent for a storm, with the traverse that it runs over: the text, the window's buffer, the numbers of a record, the rows, and
+// the output, which has room for a line; the window has room for the longest record, and the numbers have for one of that traverse.
+#[derive(Drop)]
+struct Storm<'a> {
+    traverse: Traverse<'a>,
+    source: &'a mut Source,
+    buf: &'a mut [u8],
+    numbers: &'a mut [i64],
+    rows: &'a mut [i64],
+    out: &'a mut [u8],
+    ghost room: { Room buf.now (traverse_of traverse) numbers.now out.now },
+}
+
+impl Storm<'_> {
+    ghost use Rattle.surge.specs.Storm.{Keeps, TurnOf, MarchOf, PrintOf};
+
+    // More of the storm, where the window does not hold what comes next.
+    fn refilled(&mut self, rt: &HostRuntime, x: Standing, run: Run) -> ControlFlow<usize, Standing>
+        requires { Refills run.cursor.at x.window.have (length self.old.buf.now) × (x.used + line_room ≤ length self.old.out.now) }
+        ensures keeps { Keeps self.old self.new }
+        ensures record_same { self.new.numbers.now ≡ self.old.numbers.now }
+        ensures rows_same { self.new.rows.now ≡ self.old.rows.now }
+        ensures read { ReadFrom run x result self.old.buf.now self.new.buf.now self.old.out.now self.new.out.now }
+    {
+        let answer = self
+            .source
+            .refill(rt, self.buf, run.cursor.at, x.window.have);
+        after_refill(x, run, answer, self.out)
+    }
+
+    // One turn, and what it asks for.
+    fn turn(&mut self, rt: &HostRuntime, x: Standing) -> ControlFlow<usize, Standing>
+        requires { Stands x (length self.old.buf.now) (length self.old.out.now) }
+        ensures keeps { Keeps self.old self.new }
+        ensures turned { TurnOf x self.old result self.new }
+    {
+        // Lent as `&mut`, though it is only read: of a field lent as `&` the check keeps the length alone.
+        let bytes = &mut self.buf[..x.window.have];
+        let text = Window {
+            bytes,
+            last: x.window.last,
+        };
+        let mut run = x.run;
+        match hydrograph::storm_turn(
+            self.traverse,
+            &mut run,
+            text,
+            self.numbers,
+            self.rows,
+            self.out,
+            x.used,
+        ) {
+            Turn::More => self.refilled(rt, x, run),
+            Turn::Line(used) => ControlFlow::Continue(Standing { run, used, ..x }),
+            Turn::End(used) => ControlFlow::Break(used),
+            // What waits is written, and the turn is made again with the whole buffer.
+            Turn::Full => after_write(x, run, files::flush(rt, &mut self.out[..x.used])),
+        }
+    }
+
+    // Turn after turn, from a fresh run to the listing's last line, and how many bytes wait. No march of fewer than 2⁵³
+    // bytes uses up the turns.
+    fn march(&mut self, rt: &HostRuntime, run: Run, used: usize) -> usize
+        requires place { run.cursor.at ≤ 0 }
+        requires waits { used ≤ length self.old.out.now }
+        ensures keeps { Keeps self.old self.new }
+        ensures within { result ≤ length self.new.out.now }
+        ensures marched { MarchOf run used self.old result self.new }
+    {
+        let window = Held::before(&self.source.file);
+        let mut x = Standing { run, window, used };
+        for _ in 0..TURNS {
+            match self.turn(rt, x) {
+                ControlFlow::Continue(next) => x = next,
+                ControlFlow::Break(waits) => return waits,
+            }
+        }
+        x.used
+    }
+
+    // The storm on a traverse that was opened, after the names line, `used` bytes, was to be written; nothing where that failed.
+    fn print(
+        &mut self,
+        rt: &HostRuntime,
+        run: Run,
+        used: usize,
+        named: Result<usize, Failed>,
+    ) -> usize
+        requires written { Flushes named used }
+        requires place { run.cursor.at ≤ 0 }
+        requires waits { used ≤ length self.old.out.now }
+        ensures keeps { Keeps self.old self.new }
+        ensures within { result ≤ length self.new.out.now }
+        ensures printed { PrintOf run named self.old result self.new }
+    {
+        match named {
+            Ok(n) => {
+                self.source.open(rt);
+                self.march(rt, run, used - n)
+            }
+            Err(Failed) => 0,
+        }
     }
 }
 
 // ---- the run
-
-// Turn after turn, from a fresh run to the listing's last line, and how many bytes wait. No run uses up the turns.
-fn march_storm(
-    rt: &HostRuntime,
-    file: &mut Option<File>,
-    buf: &mut [u8],
-    traverse: Traverse,
-    run: Run,
-    numbers: &mut [i64],
-    rows: &mut [i64],
-    out: &mut [u8],
-    used: usize,
-) -> usize
-    requires { Starts run used buf.old (traverse_of traverse) numbers.old out.old }
-    ensures { (result ≤ length out.new) × Marches (is_some file.old) (traverse_of traverse.entry) run used buf.old numbers.old rows.old out.old result buf.new numbers.new rows.new out.new }
-{
-    let window = Held::before(file);
-    let mut x = Standing { run, window, used };
-    for _ in 0..TURNS {
-        match turn(rt, file, buf, traverse, x, numbers, rows, out) {
-            ControlFlow::Continue(next) => x = next,
-            ControlFlow::Break(waits) => return waits,
-        }
-    }
-    x.used
-}
-
-// The storm on a traverse that was opened, after the names line, `used` bytes, was to be written; nothing where that failed.
-fn print_storm(
-    rt: &HostRuntime,
-    buf: &mut [u8],
-    traverse: Traverse,
-    run: Run,
-    numbers: &mut [i64],
-    rows: &mut [i64],
-    out: &mut [u8],
-    used: usize,
-    named: Result<usize, Failed>,
-) -> usize
-    requires written { Flushes named used }
-    requires starts { Starts run used buf.old (traverse_of traverse) numbers.old out.old }
-    ensures { (result ≤ length out.new) × AfterNames (traverse_of traverse.entry) buf.old numbers.old rows.old result buf.new numbers.new rows.new out.new (went_out named) run out.old }
-{
-    match named {
-        Ok(n) => {
-            let mut file = files::open(rt, "storm.txt");
-            march_storm(
-                rt,
-                &mut file,
-                buf,
-                traverse,
-                run,
-                numbers,
-                rows,
-                out,
-                used - n,
-            )
-        }
-        Err(Failed) => 0,
-    }
-}
 
 // A traverse that was read: the listing's names line, written before `storm.txt` is opened, and the storm; or the refusal.
 fn print_run(
@@ -201,13 +201,20 @@ fn print_run(
     requires { Room buf.old (traverse_of traverse) numbers.old out.old }
     ensures { (result ≤ length out.new) × Prints (traverse_of traverse.entry) buf.old numbers.old rows.old out.old result buf.new numbers.new rows.new out.new }
 {
-    let begun = hydrograph::begin(traverse, out, 0);
-    match begun.turn {
+    let (turn, run) = hydrograph::begin(traverse, out, 0);
+    match turn {
         Turn::Line(used) => {
             let named = files::flush(rt, &out[..used]);
-            print_storm(
-                rt, buf, traverse, begun.run, numbers, rows, out, used, named,
-            )
+            let mut source = Source::named("storm.txt");
+            let mut storm = Storm {
+                traverse,
+                source: &mut source,
+                buf,
+                numbers,
+                rows,
+                out,
+            };
+            storm.print(rt, run, used, named)
         }
         Turn::End(used) => used,
         // Opening needs no text, and there is room for a line.

@@ -1,6 +1,5 @@
 -- Rows and state are read back as they were written, and no place is past the greatest number with sign. Assumes nothing.
 use mathlib.Core.Path.{◌≡◌, refl}
-use mathlib.Core.Bool.{Bool, true, false}
 use mathlib.Core.List.{List, [], ◌∷◌}
 use native.Mathlib.Omega.{arith}
 use Prim.Native.Nat.{ℕ, zero, suc, ◌*◌, ◌≤◌}
@@ -11,8 +10,8 @@ use Rattle.records.specs.Limits.{most_points}
 use Rattle.records.specs.Shapes.{traverse}
 use Rattle.records.proofs.GroupLaws.{wholes-fit}
 use Rattle.march.specs.Given.{given}
+use Rattle.march.specs.GroupsLaws.{state-laws}
 use Rattle.march.proofs.Places.{open-place, take-place}
-use Rattle.lent.specs.Numbers.{not_zero, state_of, state_numbers}
 use Rattle.lent.proofs.Again.{whole-place}
 use Rattle.surge_c.specs.Rows.{numbers_from, rows_from}
 use Rattle.surge_c.specs.Again.{RowsAgain, StateAgain, Fitting, OpenPlaceWhole, TakePlaceWhole}
@@ -29,12 +28,7 @@ pub rows-again : RowsAgain
 rows-again = record { count = count-is; same = rows_back; back = numbers-back }
 
 pub state-again : StateAgain
-unfolding not_zero
-state-again st = by st.started refl
-  where
-    by : (t : Bool) → st.started ≡ t → state_of (state_numbers st) ≡ st
-    by true e = rw e
-    by false e = rw e
+state-again = state-laws.back
 
 -- points of two numbers are no more than half of 2^64
 count_at : (l : List ℤ) → Fitting l → station_count l ≤ 9223372036854775807

@@ -8,6 +8,6 @@ use Rattle.files.proofs.load_traverse.Given as goal
 
 abbrev pub invariant-loop : goal.invariant-loop
 invariant-loop l = record {
-  held : l.window.have ≤ length l.buf;
-  walked : Walked Follows (begun (is_some l.initial.file) l.initial.buf l.initial.points) (reading l.known l.points l.line l.buf l.window.have l.window.last) (most_turns - l.counter);
+  within : l.held.have ≤ length l.buf;
+  walked : Walked Follows (begun (is_some l.initial.source.file) l.initial.buf l.initial.points) (reading l.known l.points l.line l.buf l.held.have l.held.last) (most_turns - l.counter);
 }

@@ -6,5 +6,5 @@ use Rattle.read_files.proofs.run.Goals as goal
 pub print_traverse-requires : goal.print_traverse-requires
 print_traverse-requires c = (loads-has _ _ _ _ _ _ c.in_ok-traverse.ensures.loads).1
 
-pub print_storm-requires : goal.print_storm-requires
-print_storm-requires c = omega (arith, (loads-has _ _ _ _ _ _ c.in_ok-traverse.ensures.loads).2, c.requires.record_room)
+pub open-storm-requires-clause-room : goal.open-storm-requires-clause-room
+open-storm-requires-clause-room c = omega (arith, (loads-has _ _ _ _ _ _ c.in_ok-traverse.ensures.loads).2, c.requires.record_room)

@@ -20,11 +20,11 @@ unfolding cross_of onshore_of
 parts {w} {a} h k = record { across = sized-fits (le_z_yes tt) (cross-sized w a h k); along = sized-fits (le_z_yes tt) (onshore-sized w a h k) }
 
 pub overflow_mul-result : goal.overflow_mul-result
-overflow_mul-result c = search (rules, parts c.requires.0 c.requires.1)
+overflow_mul-result c = search (rules, parts c.args.wind.within c.args.angle.within)
 
 pub overflow_mul-result-2 : goal.overflow_mul-result-2
-overflow_mul-result-2 c = search (rules, parts c.requires.0 c.requires.1)
+overflow_mul-result-2 c = search (rules, parts c.args.wind.within c.args.angle.within)
 
 pub returns : goal.returns
 unfolding cross_of onshore_of
-returns c = search (rules, parts c.requires.0 c.requires.1)
+returns c = search (rules, parts c.args.wind.within c.args.angle.within)

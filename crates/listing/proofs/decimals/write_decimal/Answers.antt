@@ -1,13 +1,15 @@
--- `decimals::write_decimal` meets its contract. Assumes nothing.
-use Rattle.std.proofs.Common.{arith}
-use Rattle.listing.proofs.Stored.{left-all, left-more, left-none}
+-- `decimals::write_decimal` meets its contract: what the library prints are its digits. Assumes nothing.
+use Rattle.std.proofs.Common.{◌≡◌, ◌∙◌, sym, arith}
+use Rattle.listing.specs.Decimal.{decimal_of}
+use Rattle.listing.proofs.Decimal.{decimal-is}
 use Rattle.listing.proofs.decimals.write_decimal.Goals as goal
+use Rattle.listing.proofs.decimals.write_decimal.Goals.{After-as_bytes}
 
-pub loop-place-init : goal.loop-place-init
-loop-place-init c = left-all _ _ _ _ (omega arith)
+printed : (c : After-as_bytes) → c.as_bytes.result.now ≡ decimal_of c.args.n
+printed c = c.as_bytes.ensures.value ∙ c.format.ensures.text ∙ sym (decimal-is c.args.n (omega arith))
 
-pub loop-place-preserved : goal.loop-place-preserved
-loop-place-preserved c = left-more c.loop-place.invariant (omega arith) (omega arith)
+pub write_closed-requires : goal.write_closed-requires
+write_closed-requires c = rw (printed (goal.at.write_closed-requires c).After-as_bytes) c.requires
 
 pub returns : goal.returns
-returns c = left-none c.loop-place.invariant _ _ (omega arith) (omega arith) (omega arith)
+returns c = rw (printed (goal.at.returns c).After-as_bytes) at c.write_closed.ensures

@@ -10,7 +10,7 @@ pub loop-i-preserved : goal.loop-i-preserved
 unfolding put_group
 loop-i-preserved g c = λ view a.
     rw (c.store_group.ensures, a c.loop-i.i _ c.loop-i-test.true c.group.ensures)
-    (stored_on _ _ _ _ c.loop-i.list c.loop-i.i (c.loop-i.invariant view a) c.loop-i-test.true (g.met.G.Group.long _))
+    (stored_on _ _ _ _ c.loop-i.list c.loop-i.i (c.loop-i.invariant view a) c.loop-i-test.true (g.met.G.Group.laws.long _))
 
 pub returns : goal.returns
 returns g c = λ view a. stored-end _ _ _ _ c.loop-i.list c.loop-i.i (c.loop-i.invariant view a) c.loop-i-test.false

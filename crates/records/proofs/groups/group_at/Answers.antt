@@ -9,4 +9,4 @@ unfolding group_at
 returns g c =
     let e = c.read.ensures in
     (rw (c.NUMBERS.ensures, c.NUMBERS-2.ensures) at e)
-    ∙ g.met.G.Group.near _ _ (part-from (g.G.Group.NUMBERS * c.args.i) g.G.Group.NUMBERS c.args.list.now c.requires)
+    ∙ g.met.G.Group.laws.near _ _ (part-from (g.G.Group.NUMBERS * c.args.i) g.G.Group.NUMBERS c.args.list.now c.requires)

@@ -8,4 +8,4 @@ pub returns : goal.returns
 unfolding put_group
 returns g c =
     rw (c.NUMBERS.ensures, c.NUMBERS-2.ensures, c.write.ensures)
-    (part-sets (g.G.Group.NUMBERS * c.args.i) g.G.Group.NUMBERS c.args.list.now c.requires _ (g.met.G.Group.long c.args.group))
+    (part-sets (g.G.Group.NUMBERS * c.args.i) g.G.Group.NUMBERS c.args.list.now c.requires _ (g.met.G.Group.laws.long c.args.group))
