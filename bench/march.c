@@ -1,6 +1,7 @@
 /* The march alone, in memory: taking a record through the library beside the same march in double-precision Fortran, at 2, 16 and 64 segments.
  * Both take the same storm of RECORDS records, in turn, TURNS times; the least time of each is reported, and their ratio. Each height of the
- * Fortran is looked for in the library's range, so that neither is timed on something else. */
+ * Fortran is looked for in the library's range, so that neither is timed on something else. Then the harbour panel's calls beside our own, at
+ * 2 and 16 segments. */
 #include <inttypes.h>
 #include <math.h>
 #include <stdio.h>
@@ -51,20 +52,25 @@ static void refuse(const char *what, uint64_t number, int64_t place)
     exit(1);
 }
 
-static double by_library(int n, int level_c, int64_t *widest)
+/* The two calls that march a storm: our own program's and the panel's. */
+static const struct pair {
+    __typeof__(fennhop_open_traverse) *open;
+    __typeof__(fennhop_take_record) *take;
+} own = {fennhop_open_traverse, fennhop_take_record}, panel = {fennhop_panel_open_traverse, fennhop_panel_take_record};
+
+static double by_library(struct pair by, int n, int level_c, int64_t *widest)
 {
     int64_t state[FENNHOP_STATE], answer[FENNHOP_ANSWER], setup[FENNHOP_SETUP_STRIDE * FENNHOP_MOST_SEGMENTS];
     fennhop_row rows[FENNHOP_MOST_SEGMENTS] = {{0, 0, 0}};
     size_t points_count = FENNHOP_POINTS_STRIDE * (size_t)(n + 1), storm_count = FENNHOP_STORM_STRIDE * (size_t)(n + 1);
     double began = seconds_now();
-    uint64_t number = fennhop_open_traverse(latitude, friction, initial, points[0], points_count, state, FENNHOP_STATE, answer,
-                                            FENNHOP_ANSWER);
+    uint64_t number = by.open(latitude, friction, initial, points[0], points_count, state, FENNHOP_STATE, answer, FENNHOP_ANSWER);
     if (number)
         refuse("traverse", number, answer[0]);
     for (int k = 0; k < RECORDS; k++) {
-        number = fennhop_take_record(latitude, friction, initial, points[0], points_count, k ? step : 0, tide[k], storm[k][0],
-                                     storm_count, state, FENNHOP_STATE, rows, (size_t)n, level_c ? setup : NULL,
-                                     level_c ? FENNHOP_SETUP_STRIDE * (size_t)n : 0, answer, FENNHOP_ANSWER);
+        number = by.take(latitude, friction, initial, points[0], points_count, k ? step : 0, tide[k], storm[k][0], storm_count, state,
+                         FENNHOP_STATE, rows, (size_t)n, level_c ? setup : NULL, level_c ? FENNHOP_SETUP_STRIDE * (size_t)n : 0, answer,
+                         FENNHOP_ANSWER);
         if (number)
             refuse("record", number, answer[0]);
         if (answer[2] - answer[1] > *widest)
@@ -95,13 +101,27 @@ static void measure(int n, int turns)
     int outside = 0;
     prepare(n);
     for (int i = 0; i < turns; i++) {
-        double b = by_library(n, 0, &widest), c = by_library(n, 1, &widest), f = by_fortran(n, &outside);
+        double b = by_library(own, n, 0, &widest), c = by_library(own, n, 1, &widest), f = by_fortran(n, &outside);
         library = b < library ? b : library;
         level_c = c < level_c ? c : level_c;
         fortran = f < fortran ? f : fortran;
     }
     printf("%8d %12.0f %12.0f %12.0f %10.2f %10.2f %8d %10" PRId64 "\n", n, 1e9 * library / RECORDS, 1e9 * level_c / RECORDS,
            1e9 * fortran / RECORDS, library / fortran, level_c / fortran, outside, widest);
+}
+
+/* The panel's calls and our own, in turn, at Level B. */
+static void measure_panel(int n, int turns)
+{
+    double ours = 1e9, theirs = 1e9;
+    int64_t widest = 0;
+    prepare(n);
+    for (int i = 0; i < turns; i++) {
+        double a = by_library(own, n, 0, &widest), b = by_library(panel, n, 0, &widest);
+        ours = a < ours ? a : ours;
+        theirs = b < theirs ? b : theirs;
+    }
+    printf("%8d %12.0f %12.0f %10.2f\n", n, 1e9 * theirs / RECORDS, 1e9 * ours / RECORDS, theirs / ours);
 }
 
 /* march [TURNS [SEGMENTS]] */
@@ -118,5 +138,8 @@ int main(int count, char **words)
     measure(2, turns);
     measure(16, turns);
     measure(64, turns);
+    printf("%8s %12s %12s %10s\n", "segments", "panel ns", "own ns", "ratio");
+    measure_panel(2, turns);
+    measure_panel(16, turns);
     return 0;
 }

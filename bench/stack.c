@@ -1,6 +1,6 @@
 /* How much stack each call of the library uses, in bytes: the call is made on a stack that was painted, and how far the paint is gone is looked for
- * afterwards. Counted from the frame of the caller down, so what it passes on the stack is in it. Each call is made with 65 points, Level C or 50
- * rows of winds, accepted and refused; the most of these is printed. */
+ * afterwards. Counted from the frame of the caller down, so what it passes on the stack is in it. Each call is made with 65 points, on the panel 17,
+ * with Level C or 50 rows of winds, accepted and refused; the most of these is printed. */
 #include <inttypes.h>
 #include <stdio.h>
 #include <stdlib.h>
@@ -25,18 +25,30 @@ static uint64_t told;
 static int64_t latitude = 430, seconds, shore_wind = 264, central_pressure = 2757;
 static size_t traverse_bytes, storm_bytes, deck_bytes, room_count = FENNHOP_READ_STORM, text_count = sizeof text;
 
+/* The march's two calls, and with how many points they are made: those nearest to the shore. */
+static struct march {
+    typeof(fennhop_open_traverse) *open;
+    typeof(fennhop_take_record) *take;
+    size_t points;
+} program = {fennhop_open_traverse, fennhop_take_record, POINTS},
+  panel = {fennhop_panel_open_traverse, fennhop_panel_take_record, FENNHOP_PANEL_MOST_POINTS}, march;
+
 static void open_traverse(void)
 {
+    const int64_t *lent = points + FENNHOP_POINTS_STRIDE * (POINTS - march.points);
     frame = __builtin_frame_address(0);
-    told = fennhop_open_traverse(latitude, 25, 0, points, FENNHOP_READ_POINTS, state, FENNHOP_STATE, answer, FENNHOP_ANSWER);
+    told = march.open(latitude, 25, 0, lent, FENNHOP_POINTS_STRIDE * march.points, state, FENNHOP_STATE, answer, FENNHOP_ANSWER);
 }
 
 static void take_record(void)
 {
+    size_t first = POINTS - march.points, segments = march.points - 1;
+    const int64_t *lent = points + FENNHOP_POINTS_STRIDE * first, *winds_there = storm + FENNHOP_STORM_STRIDE * first;
     storm[FENNHOP_STORM_STRIDE * SEGMENTS] = shore_wind;
     frame = __builtin_frame_address(0);
-    told = fennhop_take_record(latitude, 25, 0, points, FENNHOP_READ_POINTS, seconds, 0, storm, FENNHOP_READ_STORM, state, FENNHOP_STATE,
-                               rows, SEGMENTS, setup, FENNHOP_SETUP_STRIDE * SEGMENTS, answer, FENNHOP_ANSWER);
+    told = march.take(latitude, 25, 0, lent, FENNHOP_POINTS_STRIDE * march.points, seconds, 0, winds_there,
+                      FENNHOP_STORM_STRIDE * march.points, state, FENNHOP_STATE, rows, segments, setup, FENNHOP_SETUP_STRIDE * segments,
+                      answer, FENNHOP_ANSWER);
 }
 
 static void read_traverse(void)
@@ -136,8 +148,9 @@ static long of_reading(void (*call)(void), size_t *length)
     return bytes;
 }
 
-static long of_opening(void)
+static long of_opening(struct march calls)
 {
+    march = calls;
     latitude = -1;
     long bytes = used(open_traverse, FENNHOP_REFUSED_TRAVERSE_VALUE);
     latitude = 430;
@@ -145,8 +158,12 @@ static long of_opening(void)
 }
 
 /* A first and a later record, and one refused at its first and at its last value, and for a calm that has a direction. */
-static long of_taking(void)
+static long of_taking(struct march calls)
 {
+    march = calls;
+    memset(rows, 0, sizeof rows);
+    seconds = 0;
+    used(open_traverse, 0);
     long bytes = used(take_record, 0);
     seconds = 600;
     bytes = most(bytes, used(take_record, 0));
@@ -196,13 +213,13 @@ int main(void)
     write_texts();
     place_points();
     for (int round = 0; round < 2; round++) {
-        memset(rows, 0, sizeof rows);
-        seconds = 0;
         long reading_traverse = of_reading(read_traverse, &traverse_bytes), reading_record = of_reading(read_record, &storm_bytes);
-        long opening = of_opening(), taking = of_taking(), making = of_making(), converting = of_deck();
+        long opening = of_opening(program), taking = of_taking(program), panel_opening = of_opening(panel), panel_taking = of_taking(panel);
+        long making = of_making(), converting = of_deck();
         if (round == 0)
             continue;
         printf("fennhop_open_traverse %ld\nfennhop_take_record %ld\n", opening, taking);
+        printf("fennhop_panel_open_traverse %ld\nfennhop_panel_take_record %ld\n", panel_opening, panel_taking);
         printf("fennhop_read_traverse %ld\nfennhop_read_record %ld\n", reading_traverse, reading_record);
         printf("fennhop_make_record %ld\nfennhop_read_deck %ld\n", making, converting);
     }

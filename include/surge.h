@@ -12,6 +12,12 @@
  * THE TEXT of a traverse and of a storm, in the form of traverse.txt and storm.txt and held whole by the caller, is read into such
  * numbers by fennhop_read_traverse and fennhop_read_record. No value is judged by its limits there: that is for the two calls above.
  *
+ * ON A HARBOUR PANEL, where there is little memory, the march is called by fennhop_panel_open_traverse and fennhop_panel_take_record. They
+ * are the two calls above with another limit: a traverse has 2 to 17 points, 16 segments. One with 18 to 65 points is refused (19) and
+ * one that has more, or fewer than 2, as ever (5). Of a traverse that the panel takes, both pairs of calls answer and leave the same
+ * numbers, and a storm may go from one pair to the other between two records. Linked with -Wl,--gc-sections, a program has of the
+ * library what it calls and no more.
+ *
  * A HURRICANE that is held by its few numbers (pressures at the centre and at the edge, radius R of greatest wind, a list of winds by
  * radius, a track) is turned into records by fennhop_make_record, one call for one place of the track. At each point, with r its
  * distance from the centre, rounded down: the deficit is (edge - centre) * (1 - e^(-R/r)), equations 31 and 33 of TM-35, rounded down,
@@ -60,7 +66,7 @@
  * marked const are only read. A pointer may be NULL where its count is 0, and only there; otherwise it points to so many of them,
  * aligned as C aligns their type. Arrays that a call may write must not overlap each other nor an array that it reads.
  *
- *   points   FENNHOP_POINTS_STRIDE numbers a point, sea to shore: distance, depth. 2 to 65 points.
+ *   points   FENNHOP_POINTS_STRIDE numbers a point, sea to shore: distance, depth. 2 to 65 points; on the panel 2 to 17.
  *   storm    FENNHOP_STORM_STRIDE numbers a point, in the order of the traverse: wind, angle, deficit.
  *   state    FENNHOP_STATE numbers: elapsed seconds; 0 before the first accepted record, 1 after it (any number but 0 is read as 1).
  *            fennhop_open_traverse sets it; every accepted record moves it on. Plain numbers: keep, copy or store them as you like.
@@ -102,8 +108,8 @@
  *            behind it stays as it was. fennhop_read_traverse is given answer[1] as its count.
  *
  * WHAT A CALL RETURNS: 0 where it is accepted, else the number of the first refusal, with its place in answer[0] (lines, points, rows
- * and segments count from 1). Each number has a name below. The march's two calls make checks 5 to 9, 18 and 10 to 12 alone, in this
- * order; the two that read a text return 1 to 5 alone, fennhop_make_record 13, 14 and 8 alone, and fennhop_read_deck 6, 3, 2, 15, 16,
+ * and segments count from 1). Each number has a name below. The march's two calls make checks 5, 6 to 9, 18 and 10 to 12 alone, in this
+ * order, and on the panel 19 directly after 5; the two that read a text return 1 to 5 alone, fennhop_make_record 13, 14 and 8 alone, and fennhop_read_deck 6, 3, 2, 15, 16,
  * 17 and 8 alone, in the order told at each.
  *
  *    1  a names line different, or the text empty                                    line; 1 if empty
@@ -132,6 +138,7 @@
  *   16  reading a deck: a number that is no whole count of tenths                    line
  *   17  reading a deck: not as many depths as distances                              distances given
  *   18  a wind of 0 with an angle other than 0                                       point
+ *   19  on the panel: 18 to 65 points                                                points given
  *
  * FENNHOP_WRONG_BUFFER: `state`, `answer`, or what a text is read into, is not as long as it has to be; no check was made and nothing
  * was written, the answer neither.
@@ -148,12 +155,14 @@
  * STACK that a call needs, from its caller's frame down, as measured on x86-64 (bench/stack.c) and rounded up to a multiple of 512.
  * What a dynamic linker needs to find memcpy the first time is not in it.
  *
- *   fennhop_open_traverse       512 bytes
- *   fennhop_take_record       6,656 bytes
- *   fennhop_read_traverse     1,536 bytes
- *   fennhop_read_record       2,048 bytes
- *   fennhop_make_record       8,704 bytes
- *   fennhop_read_deck           512 bytes
+ *   fennhop_open_traverse         512 bytes
+ *   fennhop_take_record         5,120 bytes
+ *   fennhop_panel_open_traverse   512 bytes
+ *   fennhop_panel_take_record   2,048 bytes
+ *   fennhop_read_traverse       1,536 bytes
+ *   fennhop_read_record         2,048 bytes
+ *   fennhop_make_record           512 bytes
+ *   fennhop_read_deck             512 bytes
  */
 #ifndef FENNHOP_SURGE_H
 #define FENNHOP_SURGE_H
@@ -166,12 +175,14 @@ extern "C" {
 #endif
 
 /* The version of this header and its library; the number is 10,000 * major + 100 * minor + patch. */
-#define FENNHOP_VERSION "2.0.0"
-#define FENNHOP_VERSION_NUMBER 20000
+#define FENNHOP_VERSION "2.1.0"
+#define FENNHOP_VERSION_NUMBER 20100
 
-/* The most points of a traverse, and the most segments between them. */
+/* The most points of a traverse, and the most segments between them; and the same on the panel. */
 #define FENNHOP_MOST_POINTS 65
 #define FENNHOP_MOST_SEGMENTS 64
+#define FENNHOP_PANEL_MOST_POINTS 17
+#define FENNHOP_PANEL_MOST_SEGMENTS 16
 
 /* The most rows of a list of winds. */
 #define FENNHOP_MOST_WINDS 50
@@ -211,6 +222,7 @@ extern "C" {
 #define FENNHOP_REFUSED_CARD_UNIT 16      /* a number of a deck that is no whole count of tenths */
 #define FENNHOP_REFUSED_CARD_COUNTS 17    /* not as many depths of a deck as distances */
 #define FENNHOP_REFUSED_CALM_ANGLE 18     /* a wind of 0 with an angle other than 0 */
+#define FENNHOP_REFUSED_PANEL_POINTS 19   /* on the panel: more than 17 points, and no more than 65 */
 
 /* Returned where an array that has one length is lent with another. */
 #define FENNHOP_WRONG_BUFFER 255
@@ -236,6 +248,21 @@ uint64_t fennhop_take_record(int64_t latitude, int64_t friction, int64_t initial
                              fennhop_row *rows, size_t rows_count,
                              int64_t *setup, size_t setup_count,
                              int64_t *answer, size_t answer_count);
+
+/* The same two on a harbour panel: 2 to 17 points, 16 segments at most. After check 5 they make check 19. */
+uint64_t fennhop_panel_open_traverse(int64_t latitude, int64_t friction, int64_t initial,
+                                     const int64_t *points, size_t points_count,
+                                     int64_t *state, size_t state_count,
+                                     int64_t *answer, size_t answer_count);
+
+uint64_t fennhop_panel_take_record(int64_t latitude, int64_t friction, int64_t initial,
+                                   const int64_t *points, size_t points_count,
+                                   int64_t seconds, int64_t tide,
+                                   const int64_t *storm, size_t storm_count,
+                                   int64_t *state, size_t state_count,
+                                   fennhop_row *rows, size_t rows_count,
+                                   int64_t *setup, size_t setup_count,
+                                   int64_t *answer, size_t answer_count);
 
 /* Reads the text of a traverse. In this order: line by line 1 and 2; 3 where the text ends too early; the count of points, 5.
  * Accepted: head and points are the traverse's and answer[1] is the count of its points. Refused: head and points are left as they

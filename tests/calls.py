@@ -4,7 +4,9 @@
 #
 #   python3 calls.py DRIVER CASES SEED [--only KIND,KIND..]
 #
-# Before the random records come those of gen/calms.py, whatever the seed.
+# Before the random records come those of gen/calms.py, whatever the seed, and before
+# the random calls of the harbour panel those of gen/panels.py, each asked of our own
+# program's calls too.
 #
 # THE PROTOCOL. A request is a word and whole decimal numbers, an answer whole
 # decimal numbers, all separated by one space, each line ended by a line feed.
@@ -35,6 +37,8 @@
 #     NUMBER and PLACE are 0 for an accepted record, LOW and HIGH are 0 for a
 #     refused one; the state, all rows and all places are given as the call left
 #     them, refused or not.
+# panel_open, panel_record: as open and as record, of the harbour panel's calls, whose
+#     traverse has 17 points at most. A storm may go from one pair of calls to the other.
 #
 # TRAVERSE: LATITUDE FRICTION INITIAL COUNT, then COUNT times DISTANCE DEPTH
 # ACCEPTED: 1 where a first record was accepted, else 0
@@ -45,10 +49,11 @@
 # is given so many points or rows, all their numbers 0.
 #
 # force, flux, gain and segment are asked within the limits of document 01 alone;
-# open and record with anything.
+# the opening of a traverse and a record with anything.
 
 import argparse
 import collections
+import copy
 import itertools
 import random
 import subprocess
@@ -56,14 +61,19 @@ import sys
 import tempfile
 import time
 
-from gen import calms, edges, values
+from gen import calms, edges, panels, values
 from gen.run import Run
 from model import forcing, march, ranges
 from model.sine import cosine, sine
 
 KINDS = (
     "sine", "cosine", "coefficient", "stress", "force", "flux", "gain", "segment", "open", "record",
+    "panel_open", "panel_record",
 )
+# A pair of calls: the words of a request, and the most points of a traverse.
+Pair = collections.namedtuple("Pair", "open record most")
+OWN = Pair("open", "record", march.MOST_POINTS)
+PANEL = Pair("panel_open", "panel_record", march.PANEL_MOST_POINTS)
 SHOWN = 5
 LARGE = (2**31 - 1, 2**31, 2**32, -(2**31) - 1, 2**62, 2**63 - 1, -(2**63))
 SUM = march.CROSS_SUM[1]
@@ -211,16 +221,19 @@ def broken_traverse(rng, run):
     return run.traverse()
 
 
-def ask_open(rng):
-    run = values.ordinary(rng, None, 1)
+def ask_one_opening(traverse, pair):
+    answer = march.open_traverse(traverse, pair.most)
+    if not isinstance(answer, march.Refusal):
+        answer = 0, answer.elapsed, int(answer.accepted)
+    return line(pair.open, *traverse_numbers(traverse)), line(*answer)
+
+
+def ask_open(rng, pair=OWN):
+    run = values.ordinary(rng, panels.segments(rng) if pair is PANEL else None, 1)
     traverse = run.traverse()
     if rng.random() < 0.6:
         traverse = broken_traverse(rng, run)
-    answer = march.open_traverse(traverse)
-    if isinstance(answer, march.Refusal):
-        return line("open", *traverse_numbers(traverse)), line(*answer)
-    text = line(0, answer.elapsed, int(answer.accepted))
-    return line("open", *traverse_numbers(traverse)), text
+    return ask_one_opening(traverse, pair)
 
 
 # Taking a record.
@@ -230,10 +243,11 @@ def lent_numbers(rows, places):
     return [*groups_text(rows), len(places), *places]
 
 
-def ask_one_record(traverse, state, rows, places, record):
-    """Request and answer; rows and places are changed as the call leaves them."""
+def ask_one_record(traverse, state, rows, places, record, pair=OWN):
+    """Request, answer and state after it; rows and places are changed as the call
+    leaves them."""
     request = line(
-        "record",
+        pair.record,
         *traverse_numbers(traverse),
         state.elapsed,
         int(state.accepted),
@@ -242,7 +256,7 @@ def ask_one_record(traverse, state, rows, places, record):
         record.tide,
         *groups_text(record.points),
     )
-    answer = march.take_record(traverse, state, rows, places, record)
+    answer = march.take_record(traverse, state, rows, places, record, most=pair.most)
     if isinstance(answer, march.Refusal):
         head = [answer.number, answer.place, 0, 0]
     else:
@@ -324,7 +338,7 @@ def odd_state(rng, state, record):
     return march.State(elapsed, state.accepted)
 
 
-def odd_requests(rng, run, state, rows, places, record):
+def odd_requests(rng, run, state, rows, places, record, pair):
     """Calls beside the list: each changes copies only."""
     for _ in range(rng.randint(0, 3)):
         traverse = run.traverse()
@@ -343,10 +357,10 @@ def odd_requests(rng, run, state, rows, places, record):
             taken = spoiled_record(rng, run, taken)
         if rng.random() < 0.2:
             mine, room, taken = wrong_counts(rng, mine, room, taken)
-        yield ask_one_record(traverse, now, mine, room, taken)[:2]
+        yield ask_one_record(traverse, now, mine, room, taken, pair)[:2]
 
 
-def edge_flux_requests(rng):
+def edge_flux_requests(rng, pair):
     """Flux at its limit or next to it, from made-up rows."""
     sign = rng.choice((-1, 1))
     traverse = march.Traverse(rng.choice((0, 900)), 10, 0, ((5, 9900), (0, 9900)))
@@ -357,7 +371,7 @@ def edge_flux_requests(rng):
     rows = [march.Row(min(end, other), max(end, other), sign * rng.choice((0, SUM)))]
     record = march.Record(rng.randint(1, 4), 0, field)
     state = march.State(rng.randint(0, 10_000), True)
-    return ask_one_record(traverse, state, rows, marked_places(rng, 2), record)[:2]
+    return ask_one_record(traverse, state, rows, marked_places(rng, 2), record, pair)[:2]
 
 
 def storm_runs(rng):
@@ -374,22 +388,58 @@ def storm_runs(rng):
     return [run]
 
 
-def ask_storm(rng, run):
-    """One list of records, refused ones among them, with odd calls beside."""
+def ask_storm(rng, run, pairs=(OWN,)):
+    """One list of records, refused ones among them, with odd calls beside; record by
+    record of one pair of calls after the other."""
     traverse = run.traverse()
     state = march.State(0, False)
     rows = march.fresh_rows(traverse)
-    yield edge_flux_requests(rng)
-    for record in run.record_list():
+    yield edge_flux_requests(rng, pairs[0])
+    for record, pair in zip(run.record_list(), itertools.cycle(pairs)):
         room = rng.choice((0, 2 * len(rows)))
         places = marked_places(rng, room)
-        yield from odd_requests(rng, run, state, rows, places, record)
+        yield from odd_requests(rng, run, state, rows, places, record, pair)
         if rng.random() < 0.1:
             bad = spoiled_record(rng, run, record)
-            request, answer, state = ask_one_record(traverse, state, rows, places, bad)
+            request, answer, state = ask_one_record(traverse, state, rows, places, bad, pair)
             yield request, answer
-        request, answer, state = ask_one_record(traverse, state, rows, places, record)
+        request, answer, state = ask_one_record(traverse, state, rows, places, record, pair)
         yield request, answer
+
+
+# The harbour panel beside our own program.
+
+
+def beside(traverse, ask):
+    """The same asked of both pairs of calls. Where the panel takes the traverse, and
+    where both refuse the count of its points, they answer the same."""
+    own, panel = ask(OWN), ask(PANEL)
+    if not panels.too_long(len(traverse.points)) and own[1] != panel[1]:
+        raise AssertionError("the panel is to answer %s: %s %s" % (own[1], *panel))
+    return own, panel
+
+
+def panel_openings():
+    for traverse in panels.traverses():
+        yield from beside(traverse, lambda pair: ask_one_opening(traverse, pair))
+
+
+def panel_calls():
+    for call in panels.calls():
+        yield from beside(call[0], lambda pair: ask_one_record(*map(copy.copy, call), pair)[:2])
+
+
+def panel_lists():
+    """Lists of records, each asked of either pair and of both in turn, with the same
+    answers."""
+    for seed, run in enumerate(panels.list_runs()):
+        asked = []
+        for pairs in ((OWN,), (PANEL,), (OWN, PANEL), (PANEL, OWN)):
+            asked.append(list(ask_storm(random.Random(seed), run, pairs)))
+        for once in zip(*asked, strict=True):
+            if len({answer for _, answer in once}) != 1:
+                raise AssertionError("the pairs of calls are to answer the same: %s" % once[0][0])
+        yield from itertools.chain(*asked)
 
 
 # All requests.
@@ -411,6 +461,16 @@ def storms(rng):
             yield from ask_storm(rng, run)
 
 
+def panel_storms(rng):
+    """Half of them with as many points as a limit, or one off it; some go from one
+    pair to the other."""
+    while True:
+        runs = [panels.storm_run(rng)] if rng.random() < 0.5 else storm_runs(rng)
+        pairs = (PANEL, OWN) if rng.random() < 0.1 else (PANEL,)
+        for run in runs:
+            yield from ask_storm(rng, run, pairs)
+
+
 def requests(kind, count, rng):
     if kind == "sine":
         return ((line("sine", a), line(sine(a))) for a in range(3600))
@@ -422,6 +482,12 @@ def requests(kind, count, rng):
         return ((line("stress", w), line(forcing.stress(w))) for w in range(2001))
     if kind == "record":
         return itertools.chain(calm_requests(), itertools.islice(storms(rng), count))
+    if kind == "panel_open":
+        opened = forever(lambda rng: ask_open(rng, PANEL), rng)
+        return itertools.chain(panel_openings(), itertools.islice(opened, count))
+    if kind == "panel_record":
+        taken = itertools.islice(panel_storms(rng), count)
+        return itertools.chain(panel_calls(), panel_lists(), taken)
     asks = {"force": ask_force, "flux": ask_flux, "gain": ask_gain}
     asks.update({"segment": ask_segment, "open": ask_open})
     return itertools.islice(forever(asks[kind], rng), count)
@@ -442,12 +508,15 @@ def judge(wanted, answers, tally):
                 print("got      ", got[:1500])
 
 
-def numbers_of(wanted):
-    """How often each refusal number is expected; 0 is accepted."""
-    return collections.Counter(int(want.split()[0]) for _, want in wanted)
+def numbers_of(kind, wanted):
+    """How often each refusal number is expected of this word; 0 is accepted."""
+    answers = (want for request, want in wanted if request.startswith(kind + " "))
+    return collections.Counter(int(want.split()[0]) for want in answers)
 
 
 NEEDED = {"segment": (0, 10, 11, 12), "open": (0, 5, 6, 7), "record": (0, *range(5, 13), 18)}
+NEEDED["panel_open"] = *NEEDED["open"], 19
+NEEDED["panel_record"] = *NEEDED["record"], 19
 
 
 def run_driver(driver, wanted):
@@ -476,13 +545,13 @@ def main(arguments):
         tally = collections.Counter()
         judge(wanted, run_driver(arguments.driver, wanted), tally)
         shown = (kind, len(wanted), tally["skipped"], time.time() - started)
-        print("%-11s %6d requests, %d skipped, %.1f seconds" % shown)
+        print("%-12s %6d requests, %d skipped, %.1f seconds" % shown)
         if kind in NEEDED:
-            numbers = numbers_of(wanted)
-            print("            outcomes", " ".join("%d:%d" % pair for pair in sorted(numbers.items())))
+            numbers = numbers_of(kind, wanted)
+            print("             outcomes", " ".join("%d:%d" % pair for pair in sorted(numbers.items())))
             lacking = [n for n in NEEDED[kind] if not numbers[n]]
             if lacking:
-                print("         no case has outcome", *lacking)
+                print("          no case has outcome", *lacking)
                 covered = False
         total.update(tally)
     print("%d passed, %d failed" % (total["passed"], total["failed"]))

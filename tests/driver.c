@@ -1,6 +1,7 @@
 /* Answers the requests of tests/calls.py, tests/make_calls.py and tests/deck_calls.py (their heads have the protocol) through the
- * product's libraries: opening a traverse, taking and making a record, reading a deck through libsurge_c.a as any customer's program
- * would, the functions below the march through libprobe.a. `segment` is not exported and is answered `skip`.
+ * product's libraries: opening a traverse and taking a record, on the harbour panel too, making a record, reading a deck through
+ * libsurge_c.a as any customer's program would, the functions below the march through libprobe.a. `segment` is not exported and is
+ * answered `skip`.
  *
  * Every array that is lent stands between two guard numbers, the rows between two guard rows, a text between guard bytes, and arrays
  * that are only read are compared with a copy after the call; a number changed outside of what was lent ends the driver. Behind a deck
@@ -187,7 +188,11 @@ static void lend_answer(void)
     answer.count = FENNHOP_ANSWER;
 }
 
-static void open_traverse(void)
+/* The calls of our own program and of the panel are of one type. */
+typedef __typeof__(fennhop_open_traverse) opening;
+typedef __typeof__(fennhop_take_record) taking;
+
+static void open_traverse(opening *call)
 {
     int64_t latitude = number(), friction = number(), initial = number();
     points(&line, FENNHOP_POINTS_STRIDE);
@@ -195,8 +200,7 @@ static void open_traverse(void)
     at = fresh;
     fill(&state, FENNHOP_STATE);
     lend_answer();
-    uint64_t n = fennhop_open_traverse(latitude, friction, initial, given(&line), line.count, lend(&state), state.count,
-                                       lend(&answer), answer.count);
+    uint64_t n = call(latitude, friction, initial, given(&line), line.count, lend(&state), state.count, lend(&answer), answer.count);
     check_given(&line);
     guarded(&state);
     guarded(&answer);
@@ -215,7 +219,7 @@ static void write_all(const struct lent *a)
         printf(" %" PRId64, a->numbers[i]);
 }
 
-static void take_record(void)
+static void take_record(taking *call)
 {
     int64_t latitude = number(), friction = number(), initial = number();
     points(&line, FENNHOP_POINTS_STRIDE);
@@ -225,9 +229,8 @@ static void take_record(void)
     int64_t seconds = number(), tide = number();
     points(&storm, FENNHOP_STORM_STRIDE);
     lend_answer();
-    uint64_t n = fennhop_take_record(latitude, friction, initial, given(&line), line.count, seconds, tide, given(&storm),
-                                     storm.count, lend(&state), state.count, rows.lent, rows.count, lend(&setup),
-                                     setup.count, lend(&answer), answer.count);
+    uint64_t n = call(latitude, friction, initial, given(&line), line.count, seconds, tide, given(&storm), storm.count, lend(&state),
+                      state.count, rows.lent, rows.count, lend(&setup), setup.count, lend(&answer), answer.count);
     check_given(&line);
     check_given(&storm);
     guarded(&state);
@@ -457,9 +460,13 @@ static void request(char *text)
     if (*at)
         *at++ = '\0';
     if (!strcmp(word, "record"))
-        take_record();
+        take_record(fennhop_take_record);
+    else if (!strcmp(word, "panel_record"))
+        take_record(fennhop_panel_take_record);
     else if (!strcmp(word, "open"))
-        open_traverse();
+        open_traverse(fennhop_open_traverse);
+    else if (!strcmp(word, "panel_open"))
+        open_traverse(fennhop_panel_open_traverse);
     else if (!strcmp(word, "make"))
         make_record();
     else if (!strcmp(word, "deck"))

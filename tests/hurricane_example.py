@@ -2,12 +2,15 @@
 # The hurricane of examples/hurricane, worked out from TM-35's cards by the second
 # implementation: expected.txt is its listing, the tables of examples/c/hurricane.c
 # and of the example's README are what the cards give. published.csv has the heights
-# that TM-35 prints, as far as the rows they stand in bear them out.
+# that TM-35 prints, as far as the rows they stand in bear them out. The two files of
+# examples/panel and the tables of examples/c/panel.c are the same storm's.
 #
-#   python3 hurricane_example.py             compares; ends with `N passed, M failed`
-#   python3 hurricane_example.py --listing   prints the listing, for expected.txt
+#   python3 hurricane_example.py              compares; ends with `N passed, M failed`
+#   python3 hurricane_example.py --listing    prints the listing, for expected.txt
+#   python3 hurricane_example.py --traverse   prints examples/panel/traverse.txt
+#   python3 hurricane_example.py --storm      prints examples/panel/storm.txt
 #
-# It needs model/hurricane.py: Hurricane, Place and listing.
+# It needs model/hurricane.py: Hurricane, Place, records and listing.
 
 import os
 import re
@@ -135,9 +138,28 @@ def place(record, rows):
     return hurricane.Place(storm, seconds, int(100 * Fraction(SA)), rows, sites)
 
 
-def listing():
+def track():
     rows = [row[3:] for row in winds()]
-    return hurricane.listing(traverse(), [place(record, rows) for record in range(NM)])
+    return [place(record, rows) for record in range(NM)]
+
+
+def listing():
+    return hurricane.listing(traverse(), track())
+
+
+def lines(names, rows):
+    return "".join("%s\n" % " ".join(map(str, row)) for row in [names.split(), *rows])
+
+
+def traverse_text():
+    *head, points = traverse()
+    return lines("latitude friction initial", [head]) + lines("distance depth", points)
+
+
+def storm_text():
+    made = hurricane.records(track())
+    rows = [(record.seconds, record.tide, *point) for record in made for point in record.points]
+    return lines("seconds tide wind angle deficit", rows)
 
 
 def printed():
@@ -174,20 +196,29 @@ def flat(rows):
     return [number for row in rows for number in row]
 
 
-def c_tables(source):
-    """Each array and constant of the C program beside what the cards give."""
-    xs, angles = directions()
-    track = [place(record, []) for record in range(NM)]
-    given, storm = traverse(), track[0].hurricane
+def panel_tables(source):
+    """The traverse of the panel's program beside what the cards give."""
+    given, said = traverse(), constants(source)
     yield "points", table(source, "points"), flat(given.points)
-    yield "winds", table(source, "winds"), flat(row[3:] for row in winds())
-    yield "directions", table(source, "directions"), flat((tenths(x), tenths(a)) for x, a in zip(xs, angles))
-    said = constants(source)
     for name, value in (
         ("LATITUDE", given.latitude), ("FRICTION", given.friction), ("INITIAL", given.initial), ("POINTS", len(given.points)),
+    ):
+        yield name, said.get(name), value
+
+
+def c_tables(source):
+    """Each array and constant of the C program beside what the cards give."""
+    yield from panel_tables(source)
+    xs, angles = directions()
+    places = track()
+    storm = places[0].hurricane
+    said = constants(source)
+    yield "winds", table(source, "winds"), flat(row[3:] for row in winds())
+    yield "directions", table(source, "directions"), flat((tenths(x), tenths(a)) for x, a in zip(xs, angles))
+    for name, value in (
         ("CENTRAL_PRESSURE", storm.centre), ("EDGE_PRESSURE", storm.edge), ("RADIUS", tenths(Fraction(R))), ("START", 10 * START),
-        ("LEFT", 10 * LEFT), ("GOES", tenths(Fraction(VF) * Fraction(DELT))), ("RECORDS", NM), ("SECONDS", track[1].seconds),
-        ("TIDE", track[0].tide),
+        ("LEFT", 10 * LEFT), ("GOES", tenths(Fraction(VF) * Fraction(DELT))), ("RECORDS", NM), ("SECONDS", places[1].seconds),
+        ("TIDE", places[0].tide),
     ):
         yield name, said.get(name), value
 
@@ -236,6 +267,9 @@ def published(made):
 
 
 def main():
+    if sys.argv[1:] in (["--traverse"], ["--storm"]):
+        sys.stdout.write(traverse_text() if sys.argv[1] == "--traverse" else storm_text())
+        return 0
     made = listing()
     if sys.argv[1:] == ["--listing"]:
         sys.stdout.buffer.write(made)
@@ -243,6 +277,9 @@ def main():
     readme = text_of("examples", "hurricane", "README.md")
     checks = [("expected.txt", text_of("examples", "hurricane", "expected.txt").encode(), made)]
     checks += c_tables(text_of("examples", "c", "hurricane.c"))
+    checks += panel_tables(text_of("examples", "c", "panel.c"))
+    checks.append(("panel/traverse.txt", text_of("examples", "panel", "traverse.txt"), traverse_text()))
+    checks.append(("panel/storm.txt", text_of("examples", "panel", "storm.txt"), storm_text()))
     checks += [("README: " + row, row in readme.splitlines(), True) for row in readme_rows()]
     checks += published(made)
     checks.append(("README: crest " + crest(made), "crest is %s." % crest(made) in readme, True))

@@ -1,6 +1,7 @@
 /* Calls of the library that only a program in another language can make: counts that are no multiple of a point, any count of rows, a
- * `state` or `answer` of another length, no numbers at all, the ends of int64_t, arrays and decks at the end of what can be read. Every
- * array lies between guard numbers, a text between guard bytes, and is compared with a copy. */
+ * `state` or `answer` of another length, no numbers at all, the ends of int64_t, arrays and decks at the end of what can be read. The
+ * march's two calls and the harbour panel's go through the same tests. Every array lies between guard numbers, a text between guard
+ * bytes, and is compared with a copy. */
 #include <inttypes.h>
 #include <stddef.h>
 #include <stdio.h>
@@ -9,7 +10,7 @@
 #include "../include/surge.h"
 #include "expect.h"
 
-enum { ROOM = 512, STATE = 0, SETUP, ANSWER, STORM, NUMBERS, MANY = FENNHOP_MOST_SEGMENTS };
+enum { ROOM = 512, STATE = 0, SETUP, ANSWER, STORM, NUMBERS, LONG = FENNHOP_MOST_POINTS + 5 };
 static const int64_t GUARD = INT64_C(0x5bd1e995a5a5a5a5);
 enum { GUARD_BYTE = 0xa5 };
 
@@ -25,8 +26,17 @@ static const int64_t record_made[] = {1000, 900, 300, 999, 1800, 189, 999, 3599,
 static const char deck[] = "DIST 1 1 .0\nDEPTH 01 50.\nDEPTH 2 00050.00\n";
 static const char deck_text[] = "latitude friction initial\n300 25 0\ndistance depth\n10 500\n0 500\n";
 enum { DECK = sizeof deck - 1, DECK_TEXT = sizeof deck_text - 1 };
-/* a traverse and a record of the most points */
-static int64_t long_points[2 * FENNHOP_MOST_POINTS], long_first[3 * FENNHOP_MOST_POINTS];
+/* a traverse and a record of more points than any; so many at their end are those of fewer */
+static int64_t long_points[2 * LONG], long_first[3 * LONG];
+
+/* A pair of calls that march a storm, and the most segments of a traverse: our own program's and the panel's. */
+struct pair {
+    __typeof__(fennhop_open_traverse) *open;
+    __typeof__(fennhop_take_record) *take;
+    size_t segments;
+};
+static const struct pair pairs[] = {{fennhop_open_traverse, fennhop_take_record, FENNHOP_MOST_SEGMENTS},
+                                    {fennhop_panel_open_traverse, fennhop_panel_take_record, FENNHOP_PANEL_MOST_SEGMENTS}};
 
 /* What is lent, each with a guard before it and guards behind. */
 static int64_t space[NUMBERS][ROOM], was[NUMBERS][ROOM];
@@ -101,27 +111,28 @@ static void untouched(const char *what, uint64_t got)
     expect(what, same(STATE, 0) && same_rows(0) && same(SETUP, 0) && same(STORM, 0) && same_text(0) && same(ANSWER, 0));
 }
 
-static uint64_t take(size_t points_count, size_t storm_count, size_t state_count, size_t rows_count, size_t setup_count,
-                     size_t answer_count)
+static uint64_t take(const struct pair *by, size_t points_count, size_t storm_count, size_t state_count, size_t rows_count,
+                     size_t setup_count, size_t answer_count)
 {
     prepare(1);
-    return fennhop_take_record(300, 25, 0, points_count ? points : NULL, points_count, 0, 0, storm_count ? first : NULL,
-                               storm_count, state_count ? state : NULL, state_count, rows_count ? rows : NULL, rows_count,
-                               setup_count ? setup : NULL, setup_count, answer_count ? answer : NULL, answer_count);
+    return by->take(300, 25, 0, points_count ? points : NULL, points_count, 0, 0, storm_count ? first : NULL, storm_count,
+                    state_count ? state : NULL, state_count, rows_count ? rows : NULL, rows_count, setup_count ? setup : NULL,
+                    setup_count, answer_count ? answer : NULL, answer_count);
 }
 
 /* A record of the most points, on the rows as they are. */
-static uint64_t take_long(fennhop_row *lent, size_t rows_count, size_t setup_count)
+static uint64_t take_long(const struct pair *by, fennhop_row *lent, size_t rows_count, size_t setup_count)
 {
-    return fennhop_take_record(300, 25, 0, long_points, 2 * FENNHOP_MOST_POINTS, 0, 0, long_first, 3 * FENNHOP_MOST_POINTS, state,
-                               FENNHOP_STATE, lent, rows_count, setup_count ? setup : NULL, setup_count, answer, FENNHOP_ANSWER);
+    const size_t count = by->segments + 1, left_out = LONG - count;
+    return by->take(300, 25, 0, long_points + 2 * left_out, 2 * count, 0, 0, long_first + 3 * left_out, 3 * count, state, FENNHOP_STATE,
+                    lent, rows_count, setup_count ? setup : NULL, setup_count, answer, FENNHOP_ANSWER);
 }
 
-static uint64_t open(size_t points_count, size_t state_count, size_t answer_count)
+static uint64_t open(const struct pair *by, size_t points_count, size_t state_count, size_t answer_count)
 {
     prepare(1);
-    return fennhop_open_traverse(300, 25, 0, points_count ? points : NULL, points_count, state_count ? state : NULL, state_count,
-                                 answer_count ? answer : NULL, answer_count);
+    return by->open(300, 25, 0, points_count ? points : NULL, points_count, state_count ? state : NULL, state_count,
+                    answer_count ? answer : NULL, answer_count);
 }
 
 static uint64_t make(size_t winds_count, size_t sites_count, size_t storm_count, size_t answer_count)
@@ -154,97 +165,110 @@ static void header(void)
     expect("the refusals of reading a deck", FENNHOP_REFUSED_CARD_ORDER == 15 && FENNHOP_REFUSED_CARD_UNIT == 16 &&
                                                  FENNHOP_REFUSED_CARD_COUNTS == 17);
     expect("the refusal of a calm", FENNHOP_REFUSED_CALM_ANGLE == 18);
+    expect("the panel's refusal and limits", FENNHOP_REFUSED_PANEL_POINTS == 19 && FENNHOP_PANEL_MOST_POINTS == 17 &&
+                                                 FENNHOP_PANEL_MOST_SEGMENTS == 16);
     expect("the lengths for the most points", FENNHOP_READ_POINTS == FENNHOP_POINTS_STRIDE * FENNHOP_MOST_POINTS &&
                                                   FENNHOP_READ_STORM == FENNHOP_STORM_STRIDE * FENNHOP_MOST_POINTS);
 }
 
-static void counts(void)
+static void counts(const struct pair *by)
 {
     for (size_t n = 0; n < 9; n++) {
         int64_t whole = n % 2 ? 0 : (int64_t)n / 2;
         if (whole < 2) {
-            refused("points of a traverse that is opened", open(n, 2, 3), FENNHOP_REFUSED_POINTS, whole);
-            refused("points of a traverse", take(n, 6, 2, 1, 0, 3), FENNHOP_REFUSED_POINTS, whole);
+            refused("points of a traverse that is opened", open(by, n, 2, 3), FENNHOP_REFUSED_POINTS, whole);
+            refused("points of a traverse", take(by, n, 6, 2, 1, 0, 3), FENNHOP_REFUSED_POINTS, whole);
         }
         if (n != 6)
-            refused("points of a record", take(4, n, 2, 1, 0, 3), FENNHOP_REFUSED_LENT, 0);
+            refused("points of a record", take(by, 4, n, 2, 1, 0, 3), FENNHOP_REFUSED_LENT, 0);
         if (n != 1)
-            refused("rows", take(4, 6, 2, n, 0, 3), FENNHOP_REFUSED_LENT, 0);
+            refused("rows", take(by, 4, 6, 2, n, 0, 3), FENNHOP_REFUSED_LENT, 0);
         if (n != 0 && n != 2)
-            refused("setup places", take(4, 6, 2, 1, n, 3), FENNHOP_REFUSED_LENT, 0);
+            refused("setup places", take(by, 4, 6, 2, 1, n, 3), FENNHOP_REFUSED_LENT, 0);
         if (n != 2) {
-            untouched("a state of another length", take(4, 6, n, 1, 0, 3));
-            untouched("a state of another length, opening", open(4, n, 3));
+            untouched("a state of another length", take(by, 4, 6, n, 1, 0, 3));
+            untouched("a state of another length, opening", open(by, 4, n, 3));
         }
         if (n != 3) {
-            untouched("an answer of another length", take(4, 6, 2, 1, 0, n));
-            untouched("an answer of another length, opening", open(4, 2, n));
+            untouched("an answer of another length", take(by, 4, 6, 2, 1, 0, n));
+            untouched("an answer of another length, opening", open(by, 4, 2, n));
         }
     }
-    untouched("nothing at all", take(0, 0, 0, 0, 0, 0));
-    untouched("nothing at all, opening", open(0, 0, 0));
+    untouched("nothing at all", take(by, 0, 0, 0, 0, 0, 0));
+    untouched("nothing at all, opening", open(by, 0, 0, 0));
 }
 
-/* Any count of rows but the one that fits, for one segment and for the most. What lies behind the 64th is not looked at. */
-static void rows_lent(void)
+/* Any count of rows but the one that fits, for one segment and for the most. What lies behind the last that fits is not looked at. */
+static void rows_lent(const struct pair *by)
 {
-    static const size_t wrong[] = {0, 63, 65, 200, ROOM - 2};
-    for (int i = 0; i < 5; i++) {
-        refused("many rows, one segment", take(4, 6, 2, wrong[i], 0, 3), FENNHOP_REFUSED_LENT, 0);
+    static const size_t wrong[] = {0, 15, 16, 17, 63, 64, 65, 200, ROOM - 2};
+    const size_t most = by->segments;
+    for (int i = 0; i < 9; i++) {
+        refused("many rows, one segment", take(by, 4, 6, 2, wrong[i], 0, 3), FENNHOP_REFUSED_LENT, 0);
+        if (wrong[i] == most)
+            continue;
         prepare(ROOM - 2);
-        refused("rows that do not fit 64 segments", take_long(wrong[i] ? rows : NULL, wrong[i], 0), FENNHOP_REFUSED_LENT, 0);
+        refused("rows that do not fit the most segments", take_long(by, wrong[i] ? rows : NULL, wrong[i], 0), FENNHOP_REFUSED_LENT, 0);
     }
-    prepare(MANY);
-    expect("64 rows", take_long(rows, MANY, 2 * MANY) == 0 && state[0] == 0 && state[1] == 1);
-    expect("what lies beside", same(STATE, 2) && same_rows(MANY) && same(SETUP, 2 * MANY) && same(ANSWER, 3));
-    for (int i = 0; i < MANY; i++)
+    prepare(most);
+    expect("the most rows", take_long(by, rows, most, 2 * most) == 0 && state[0] == 0 && state[1] == 1);
+    expect("what lies beside", same(STATE, 2) && same_rows(most) && same(SETUP, 2 * most) && same(ANSWER, 3));
+    for (size_t i = 0; i < most; i++)
         expect("a row of a first record", is_row(&rows[i], 0, 0, INT64_C(57280000) * 10000));
 }
 
-/* Very many rows, all fresh, in memory that cannot be written: a refused call writes none, however many there are. */
-static void very_many_rows(void)
+/* So many bytes, all 0, that cannot be written. */
+static void *blank_bytes(size_t count)
 {
-    const size_t most = ((size_t)1 << 32) + MANY;
-    fennhop_row *blank = mmap(NULL, most * sizeof(fennhop_row), PROT_READ, MAP_PRIVATE | MAP_ANONYMOUS | MAP_NORESERVE, -1, 0);
-    if (blank == MAP_FAILED) {
-        expect("blank pages", 0);
-        return;
-    }
-    static const size_t past[] = {MANY + 1, 1000, (size_t)1 << 31, (size_t)1 << 32, ((size_t)1 << 32) + MANY};
-    for (int i = 0; i < 5; i++) {
-        prepare(0);
-        refused("very many rows", take_long(blank, past[i], 0), FENNHOP_REFUSED_LENT, 0);
-    }
-    prepare(0);
-    refused("64 rows that cannot be written", take_long(blank, MANY, 1), FENNHOP_REFUSED_LENT, 0);
-    munmap(blank, most * sizeof(fennhop_row));
+    void *pages = mmap(NULL, count, PROT_READ, MAP_PRIVATE | MAP_ANONYMOUS | MAP_NORESERVE, -1, 0);
+    if (pages != MAP_FAILED)
+        return pages;
+    expect("blank pages", 0);
+    return NULL;
 }
 
-static void accepted(void)
+/* Very many rows, all fresh, in memory that cannot be written: a refused call writes none, however many there are. */
+static void very_many_rows(const struct pair *by)
+{
+    const size_t most = by->segments, bytes = (((size_t)1 << 32) + most) * sizeof(fennhop_row);
+    const size_t past[] = {most + 1, 1000, (size_t)1 << 31, (size_t)1 << 32, ((size_t)1 << 32) + most};
+    fennhop_row *blank = blank_bytes(bytes);
+    if (!blank)
+        return;
+    for (int i = 0; i < 5; i++) {
+        prepare(0);
+        refused("very many rows", take_long(by, blank, past[i], 0), FENNHOP_REFUSED_LENT, 0);
+    }
+    prepare(0);
+    refused("the most rows, which cannot be written", take_long(by, blank, most, 1), FENNHOP_REFUSED_LENT, 0);
+    munmap(blank, bytes);
+}
+
+static void accepted(const struct pair *by)
 {
     for (size_t places = 0; places < 4; places += 2) {
-        expect("the first record", take(4, 6, 2, 1, places, 3) == 0);
+        expect("the first record", take(by, 4, 6, 2, 1, places, 3) == 0);
         expect("its state", state[0] == 0 && state[1] == 1);
         expect("its row", is_row(rows, 0, 0, 0));
         expect("its height", answer[0] == 0 && answer[1] == 2325 && answer[2] == 2326);
         expect("its setup places", places == 0 ? same(SETUP, 0) : setup[0] == 2325 && setup[1] == 2326);
         expect("what lies beside", same(STATE, 2) && same_rows(1) && same(SETUP, 2) && same(ANSWER, 3));
     }
-    expect("opening", open(4, 2, 3) == 0 && state[0] == 0 && state[1] == 0 && same(STATE, 2) && same_rows(0) && same(ANSWER, 3));
+    expect("opening", open(by, 4, 2, 3) == 0 && state[0] == 0 && state[1] == 0 && same(STATE, 2) && same_rows(0) && same(ANSWER, 3));
     expect("its answer", answer[0] == 0 && answer[1] == 0 && answer[2] == 0);
 }
 
 /* Any number but 0 says that a first record was accepted, and a refused call leaves it as it is. */
-static void started(void)
+static void started(const struct pair *by)
 {
     static const int64_t yes[] = {1, -1, 7, INT64_MAX, INT64_MIN};
     for (int i = 0; i < 5; i++) {
         prepare(1);
         state[1] = yes[i];
         keep();
-        uint64_t n = fennhop_take_record(300, 25, 0, points, 4, 0, 0, first, 6, state, 2, rows, 1, NULL, 0, answer, 3);
+        uint64_t n = by->take(300, 25, 0, points, 4, 0, 0, first, 6, state, 2, rows, 1, NULL, 0, answer, 3);
         refused("seconds 0 in a later record", n, FENNHOP_REFUSED_RECORD_VALUE, 0);
-        n = fennhop_take_record(300, 25, 0, points, 4, 1600, 50, first, 6, state, 2, rows, 1, NULL, 0, answer, 3);
+        n = by->take(300, 25, 0, points, 4, 1600, 50, first, 6, state, 2, rows, 1, NULL, 0, answer, 3);
         expect("a later record", n == 0 && state[0] == 1600 && state[1] == 1);
         expect("its height", answer[1] == 7302 && answer[2] == 7303);
     }
@@ -253,7 +277,7 @@ static void started(void)
 static const int64_t end[] = {INT64_MAX, INT64_MIN};
 
 /* The ends of int64_t in every number. */
-static void ends(void)
+static void ends(const struct pair *by)
 {
     for (int e = 0; e < 2; e++)
         for (int i = 0; i < 19; i++) {
@@ -267,9 +291,10 @@ static void ends(void)
             static const int place[] = {0, 0, 0, 1, 1, 2, 2, 1, 1, 1, 0, 0, 0, 1, 1, 1, 2, 2, 2};
             *places[i] = end[e];
             keep();
-            uint64_t n = fennhop_take_record(head[0], head[1], head[2], line, 4, times[0], times[1], field, 6, state, 2, rows, 1, setup,
-                                             2, answer, 3);
+            uint64_t n = by->take(head[0], head[1], head[2], line, 4, times[0], times[1], field, 6, state, 2, rows, 1, setup, 2, answer, 3);
             refused("an end of int64_t", n, number[i], place[i]);
+            if (number[i] == 6)
+                refused("an end of int64_t, opening", by->open(head[0], head[1], head[2], line, 4, state, 2, answer, 3), 6, place[i]);
         }
 }
 
@@ -296,7 +321,7 @@ static int64_t *fenced(const int64_t *numbers, size_t count)
 }
 
 /* A calm of every angle at each point, in a first record on made-up rows and in a later one, in arrays behind which nothing can be read. */
-static void calms(void)
+static void calms(const struct pair *by)
 {
     static const int64_t angle[] = {0, 1, 3599, -1, 3600, INT64_MAX, INT64_MIN};
     static const int number[] = {0, 18, 18, 9, 9, 9, 9};
@@ -311,7 +336,7 @@ static void calms(void)
             rows[0] = (fennhop_row){-5, 5, 7};
             state[1] = later;
             keep();
-            uint64_t n = fennhop_take_record(300, 25, 0, points, 4, later, 0, lent, 6, state, 2, rows, 1, setup, 2, answer, 3);
+            uint64_t n = by->take(300, 25, 0, points, 4, later, 0, lent, 6, state, 2, rows, 1, setup, 2, answer, 3);
             if (number[i % 7])
                 refused("a calm that has a direction", n, number[i % 7], i / 7 + 1);
             else
@@ -320,31 +345,113 @@ static void calms(void)
 }
 
 /* The last of the most points calm with a direction, and then with none. */
-static void late_calm(void)
+static void late_calm(const struct pair *by)
 {
-    int64_t *last = long_first + 3 * MANY, was_there = last[0];
-    prepare(MANY);
+    const size_t most = by->segments;
+    int64_t *last = long_first + 3 * (LONG - 1), was_there = last[0];
+    prepare(most);
     last[0] = 0;
-    refused("a calm at the last point", take_long(rows, MANY, 2 * MANY), FENNHOP_REFUSED_CALM_ANGLE, FENNHOP_MOST_POINTS);
+    refused("a calm at the last point", take_long(by, rows, most, 2 * most), FENNHOP_REFUSED_CALM_ANGLE, most + 1);
     last[1] = 0;
-    expect("a calm without a direction", take_long(rows, MANY, 2 * MANY) == 0 && state[1] == 1);
-    expect("its row, and one before it", is_row(&rows[MANY - 1], 0, 0, INT64_C(28640000) * 10000) &&
-                                             is_row(&rows[MANY - 2], 0, 0, INT64_C(57280000) * 10000));
+    expect("a calm without a direction", take_long(by, rows, most, 2 * most) == 0 && state[1] == 1);
+    expect("its row, and one before it", is_row(&rows[most - 1], 0, 0, INT64_C(28640000) * 10000) &&
+                                             is_row(&rows[most - 2], 0, 0, INT64_C(57280000) * 10000));
     last[0] = was_there;
     last[1] = 900;
 }
 
-/* The ends of int64_t in each of 64 rows; the first bad row is told, whatever stands in the later ones. */
-static void row_ends(void)
+/* The ends of int64_t in each of the most rows; the first bad row is told, whatever stands in the later ones. */
+static void row_ends(const struct pair *by)
 {
-    for (int k = 0; k < MANY; k++)
+    const size_t most = by->segments;
+    for (size_t k = 0; k < most; k++)
         for (int e = 0; e < 8; e++) {
-            prepare(MANY);
+            prepare(most);
             rows[k] = (fennhop_row){e & 1 ? end[0] : end[1], e & 2 ? end[0] : end[1], e & 4 ? end[0] : end[1]};
-            rows[MANY - 1].cross = end[e & 1];
+            rows[most - 1].cross = end[e & 1];
             keep();
-            refused("a row of the ends of int64_t", take_long(rows, MANY, 2 * MANY), FENNHOP_REFUSED_LENT, k + 1);
+            refused("a row of the ends of int64_t", take_long(by, rows, most, 2 * most), FENNHOP_REFUSED_LENT, k + 1);
         }
+}
+
+/* The refusal of so many points; 0 where they may be so many. */
+static uint64_t wrong_points(const struct pair *by, size_t count)
+{
+    if (count < 2 || count > FENNHOP_MOST_POINTS)
+        return FENNHOP_REFUSED_POINTS;
+    return count > by->segments + 1 ? FENNHOP_REFUSED_PANEL_POINTS : 0;
+}
+
+/* What a call answers to so many points, all else being right: the refusal of them, or that it is accepted. */
+static void points_told(const char *what, const struct pair *by, uint64_t got, size_t count)
+{
+    const uint64_t number = wrong_points(by, count);
+    if (number)
+        refused(what, got, number, count);
+    else
+        expect(what, got == 0 && answer[0] == 0 && state[0] == 0 && same(STATE, 2) && same(ANSWER, FENNHOP_ANSWER));
+}
+
+/* Every count of the numbers of points, behind which nothing can be read. Rows and setup can be written only where the record is taken. */
+static void point_counts(const struct pair *by)
+{
+    static const fennhop_row fresh[LONG];
+    for (size_t n = 0; n <= 2 * LONG; n++) {
+        const size_t count = n % 2 ? 0 : n / 2, segments = count ? count - 1 : 0;
+        const int rights = wrong_points(by, count) ? PROT_READ : PROT_READ | PROT_WRITE;
+        const int64_t *line = fenced(long_points + 2 * LONG - n, n), *field = fenced(long_first + 3 * (LONG - count), 3 * count);
+        fennhop_row *lent = fenced_bytes(fresh, segments * sizeof(fennhop_row), rights);
+        int64_t *places = fenced_bytes(long_points, 2 * segments * sizeof(int64_t), rights);
+        if (!line || !field || !lent || !places)
+            return;
+        prepare(0);
+        points_told("points, opening", by, by->open(300, 25, 0, line, n, state, 2, answer, 3), count);
+        prepare(0);
+        points_told("points", by,
+                    by->take(300, 25, 0, line, n, 0, 0, field, 3 * count, state, 2, lent, segments, places, 2 * segments, answer, 3),
+                    count);
+        expect("a first record that was accepted", state[1] == (wrong_points(by, count) == 0));
+    }
+}
+
+/* Very many points, and counts that 32 bits would take for few. */
+static void very_many_points(const struct pair *by)
+{
+    const size_t wide = (size_t)1 << 32, past[] = {66, 1000, wide / 2, wide / 2 + 17, wide, wide + 17, wide + 65};
+    const size_t bytes = 2 * (wide + 66) * sizeof(int64_t);
+    int64_t *blank = blank_bytes(bytes);
+    if (!blank)
+        return;
+    for (int i = 0; i < 7; i++)
+        for (size_t odd = 0; odd < 2; odd++) {
+            const size_t n = 2 * past[i] + odd, count = odd ? 0 : past[i];
+            prepare(1);
+            points_told("very many points, opening", by, by->open(300, 25, 0, blank, n, state, 2, answer, 3), count);
+            points_told("very many points", by,
+                        by->take(300, 25, 0, blank, n, 0, 0, first, 6, state, 2, rows, 1, setup, 2, answer, 3), count);
+        }
+    munmap(blank, bytes);
+}
+
+/* So many points, too many for a panel, with nothing else right: every number an end of int64_t, nothing lent as many as it has to be. Only
+ * a state or an answer of another length comes before 19 and before 5. */
+static void too_long(const struct pair *by, size_t count, int64_t bad)
+{
+    int64_t line[2 * LONG];
+    for (int i = 0; i < 2 * LONG; i++)
+        line[i] = bad;
+    const uint64_t number = wrong_points(by, count);
+    const size_t n = 2 * count;
+    prepare(0);
+    state[0] = state[1] = bad;
+    keep();
+    refused("too long, opening", by->open(bad, bad, bad, line, n, state, 2, answer, 3), number, count);
+    refused("too long", by->take(bad, bad, bad, line, n, bad, bad, line, 7, state, 2, rows, 200, setup, 3, answer, 3), number, count);
+    keep();
+    untouched("too long, opening, no state", by->open(bad, bad, bad, line, n, NULL, 0, answer, 3));
+    untouched("too long, opening, short answer", by->open(bad, bad, bad, line, n, state, 2, answer, 2));
+    untouched("too long, long state", by->take(bad, bad, bad, line, n, bad, bad, line, 7, state, 3, rows, 200, setup, 3, answer, 3));
+    untouched("too long, short answer", by->take(bad, bad, bad, line, n, bad, bad, line, 7, state, 2, rows, 200, setup, 3, answer, 2));
 }
 
 /* A record that was made of the first `count` points. */
@@ -563,22 +670,30 @@ static void very_long_deck(void)
 
 int main(void)
 {
-    for (int i = 0; i < FENNHOP_MOST_POINTS; i++) {
-        long_points[2 * i] = 10 * (FENNHOP_MOST_POINTS - 1 - i);
+    for (int i = 0; i < LONG; i++) {
+        long_points[2 * i] = 10 * (LONG - 1 - i);
         long_points[2 * i + 1] = 500;
         long_first[3 * i] = 1000;
         long_first[3 * i + 1] = 900;
     }
     header();
-    counts();
-    rows_lent();
-    very_many_rows();
-    accepted();
-    started();
-    ends();
-    calms();
-    late_calm();
-    row_ends();
+    for (int i = 0; i < 2; i++) {
+        const struct pair *by = pairs + i;
+        counts(by);
+        rows_lent(by);
+        very_many_rows(by);
+        accepted(by);
+        started(by);
+        ends(by);
+        calms(by);
+        late_calm(by);
+        row_ends(by);
+        point_counts(by);
+        very_many_points(by);
+    }
+    for (size_t count = FENNHOP_PANEL_MOST_POINTS + 1; count <= LONG; count++)
+        for (int e = 0; e < 2; e++)
+            too_long(pairs + 1, count, end[e]);
     make_counts();
     make_ends();
     made_calms();

@@ -61,21 +61,21 @@ def segment(numbers):
     return [answer] if isinstance(answer, int) else [0, *answer[0], *answer[1]]
 
 
-def open_traverse(numbers):
-    answer = march.open_traverse(numbers.traverse())
+def open_traverse(numbers, most=march.MOST_POINTS):
+    answer = march.open_traverse(numbers.traverse(), most)
     if isinstance(answer, march.Refusal):
         return answer
     return 0, answer.elapsed, int(answer.accepted)
 
 
-def record(numbers):
+def record(numbers, most=march.MOST_POINTS):
     traverse = numbers.traverse()
     state = march.State(numbers.one(), numbers.one() == 1)
     rows = numbers.rows()
     places = list(numbers.some(numbers.one()))
     seconds, tide = numbers.some(2)
     taken = march.Record(seconds, tide, numbers.points(3))
-    answer = march.take_record(traverse, state, rows, places, taken, fast)
+    answer = march.take_record(traverse, state, rows, places, taken, fast, most)
     if isinstance(answer, march.Refusal):
         head = [*answer, 0, 0]
     else:
@@ -109,6 +109,8 @@ CALLS = {
     "segment": segment,
     "open": open_traverse,
     "record": record,
+    "panel_open": lambda n: open_traverse(n, march.PANEL_MOST_POINTS),
+    "panel_record": lambda n: record(n, march.PANEL_MOST_POINTS),
     "make": make,
     "deck": read_deck,
 }

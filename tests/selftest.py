@@ -1,11 +1,12 @@
 # Tests of the model and of the generators: document 01's reference runs, the
 # readings of its text, the exact march within every range, ranges against a
 # dense sample of fractions, and the fast path against the fractions; document
-# 02's storm maker, its decks and its calms by numbers worked out by hand, and its
-# coefficient by those that TM-35 prints.
+# 02's storm maker, its decks, its calms and its harbour panel by numbers worked out
+# by hand, and its coefficient by those that TM-35 prints.
 #
 #   python3 selftest.py        the last line is `N passed, M failed`
 
+import copy
 import itertools
 import math
 import os
@@ -20,7 +21,7 @@ from unittest import mock
 import calls
 import deck_calls
 import make_calls
-from gen import calms, cases, damage, decks, edges, hurricanes, values
+from gen import calms, cases, damage, decks, edges, hurricanes, panels, values
 from model import deck, exact, fast, forcing, hurricane, march, program, ranges, reader, refread
 from model.sine import TABLE, cosine, sine
 
@@ -322,12 +323,14 @@ def field(count, wind=500, angle=300, deficit=10):
 TRAVERSE = march.Traverse(300, 25, 0, ((30, 900), (20, 700), (10, 500), (0, 400)))
 
 
-def refusal_of(traverse=TRAVERSE, state=march.State(0, True), rows=None, places=(), record=None):
+def refusal_of(
+    traverse=TRAVERSE, state=march.State(0, True), rows=None, places=(), record=None, **how
+):
     rows = march.fresh_rows(TRAVERSE) if rows is None else list(rows)
     places = list(places)
     record = record or march.Record(600, 0, field(4))
     kept = list(rows), list(places)
-    answer = march.take_record(traverse, state, rows, places, record)
+    answer = march.take_record(traverse, state, rows, places, record, **how)
     if isinstance(answer, march.Refusal):
         same((rows, places), kept)
         return tuple(answer)
@@ -548,12 +551,13 @@ def calm_outcomes():
     return found, [run.outcome() for _, run in calms.file_runs(random.Random(30))]
 
 
-def hand_calm_cases_fail():
-    """Whether the cases by hand notice it."""
-    try:
-        test_calm_checks()
-    except AssertionError:
-        return True
+def one_fails(*tests):
+    """Whether one of these tests fails."""
+    for test in tests:
+        try:
+            test()
+        except AssertionError:
+            return True
     return False
 
 
@@ -562,11 +566,251 @@ def test_calm_mistakes_are_noticed():
     for label, name, mistake in CALM_MISTAKES:
         with mock.patch.object(march, name, mistake):
             wrong = calm_outcomes()
-            by_hand = hand_calm_cases_fail()
+            by_hand = one_fails(test_calm_checks)
         noticed = [sum(a != b for a, b in zip(*both)) for both in zip(wrong, right)]
         shown = (label, noticed[0], len(right[0]), noticed[1], len(right[1]))
         print("  %-28s noticed in %4d of %d calls, %3d of %d files" % shown)
         assert by_hand and noticed[0] > 1 and (noticed[1] > 1 or name == "check_lent"), label
+
+
+# The harbour panel of document 02, request Q-5.
+
+PANEL = march.PANEL_MOST_POINTS
+LIMITS = march.MOST_POINTS, PANEL
+COUNTS_BY_HAND = {0: 5, 1: 5, 2: None, 3: None, 16: None, 17: None, 18: 19, 19: 19, 33: 19}
+COUNTS_BY_HAND.update({64: 19, 65: 19, 66: 5, 67: 5, 256 + 17: 5, 70_000: 5})
+
+
+def even_traverse(count):
+    points = ((count - 1 - i, 500) for i in range(count)) if count < 100 else range(count)
+    return TRAVERSE._replace(points=tuple(points))
+
+
+def answers_to(count, most, traverse=None, **lent):
+    """What opening and taking a record answer, all being sound that is not given."""
+    traverse = traverse or even_traverse(count)
+    lent.setdefault("rows", march.fresh_rows(traverse))
+    lent.setdefault("record", march.Record(600, 0, field(count)))
+    opened = march.open_traverse(traverse, most)
+    opened = tuple(opened) if isinstance(opened, march.Refusal) else None
+    return opened, refusal_of(traverse, most=most, **lent)
+
+
+def test_panel_counts():
+    """Both limits and the place by hand; our own program knows no 19."""
+    for count, number in COUNTS_BY_HAND.items():
+        panel = number and (number, count)
+        own = panel if number == 5 else None
+        same((count, answers_to(count, PANEL)), (count, (panel, panel)))
+        same((count, answers_to(count, march.MOST_POINTS)), (count, (own, own)))
+        for places in ([5] * 2 * max(0, count - 1), [5]):
+            told = answers_to(count, PANEL, state=march.State(0, False), places=places)[1]
+            same((count, told), (count, panel or ((8, 0) if places == [5] else (9, 0))))
+
+
+def with_point(traverse, place, *point):
+    points = list(traverse.points)
+    points[place - 1] = point
+    return traverse._replace(points=tuple(points))
+
+
+def faults_by_hand(count):
+    """(the refusal, what is given), one fault each."""
+    even, fresh = even_traverse(count), [march.FRESH] * (count - 1)
+    yield (6, 0), {"traverse": even._replace(latitude=901)}
+    yield (6, 0), {"traverse": even._replace(friction=9)}
+    yield (6, 0), {"traverse": even._replace(initial=-1001)}
+    yield (6, 1), {"traverse": with_point(even, 1, 6401, 500)}
+    yield (6, 17), {"traverse": with_point(even, 17, count - 17, -1)}
+    yield (6, count), {"traverse": with_point(even, count, 0, 10_001)}
+    yield (7, 2), {"traverse": with_point(even, 2, count - 1, 500)}
+    yield (7, 17), {"traverse": with_point(even, 17, count - 16, 500)}
+    yield (7, count), {"traverse": with_point(even, count, 1, 500)}
+    yield (8, 0), {"rows": fresh[1:]}
+    yield (8, 0), {"rows": fresh * 2}
+    yield (8, 0), {"places": [5] * (count - 1)}
+    yield (8, 0), {"record": march.Record(600, 0, field(count - 1))}
+    yield (8, 1), {"rows": [march.Row(1, 0, 0)] + fresh[1:]}
+    yield (8, count - 1), {"rows": fresh[1:] + [march.Row(0, 0, march.CROSS_SUM[1] + 1)]}
+    yield (9, 0), {"record": march.Record(0, 0, field(count))}
+    yield (9, 0), {"state": march.State(10**9, True)}
+    yield (9, count), {"record": march.Record(600, 0, field(count - 1) + field(1, 2001))}
+    yield (18, 1), {"record": march.Record(600, 0, field(1, 0) + field(count - 1))}
+    dry = with_point(with_point(even, 1, count - 1, 0), 2, count - 2, 0)
+    yield (10, 1), {"traverse": dry}
+
+
+def test_panel_order():
+    """5 before 19, and 19 before every other, by hand."""
+    for count, panel in ((17, None), (18, (19, 18)), (64, (19, 64)), (65, (19, 65)), (66, (5, 66))):
+        for fault, given in faults_by_hand(count):
+            own = panel if count == 66 else fault
+            for most, want in ((march.MOST_POINTS, own), (PANEL, panel or fault)):
+                opened = want if want[0] in (5, 19, 6, 7) else None
+                got = answers_to(count, most, **given)
+                same((count, most, fault, got), (count, most, fault, (opened, want)))
+
+
+def test_panel_pairs():
+    """The same of the generated faults, with 11 and 12; all are met at each count."""
+    met = set()
+    for lent, count, fault in panels.faulty_calls():
+        told = fault.number, fault.place
+        own = (5, count) if count > 65 else told
+        panel = (19, count) if panels.too_long(count) else own
+        got = [lent.outcome(most=most, formulas=fast) for most in LIMITS]
+        same((count, told, got), (count, told, [own, panel]))
+        met.add((count, fault.number, lent.state.accepted, len(lent.places) > 1))
+    numbers = set(calms.ORDER) - {5}
+    wanted = set(itertools.product((17, 18, 65, 66), numbers, (False, True), (False, True)))
+    same(wanted - met, {w for w in wanted if w[1] == 11 and not w[2]})
+
+
+def told_and_left(call, most):
+    """The answer of a call that takes a record, and what it leaves."""
+    traverse, state, rows, places, record = map(copy.copy, call)
+    return march.take_record(traverse, state, rows, places, record, fast, most), rows, places
+
+
+def test_panel_calls():
+    """Of what the panel takes, both pairs leave the same; each count is met four times."""
+    counts = []
+    for call in panels.counted_calls():
+        count = len(call[0].points)
+        counts.append(count)
+        own, panel = (told_and_left(call, most) for most in LIMITS)
+        sound = march.within(count, march.POINTS)
+        want = march.Refusal(19 if sound else 5, count)
+        same((own[0] == want, panel[0] == want), (not sound, not 2 <= count <= PANEL))
+        same(panel == own, not panels.too_long(count))
+    same([counts.count(count) for count in range(71)], [4] * 71)
+
+
+def test_panel_storms():
+    """The lists have 2, 16 and 17 points, most are accepted to their end; random
+    storms have as many as each limit, and one off it."""
+    runs = list(panels.list_runs())
+    same({len(run.points) for run in runs}, {2, 16, 17})
+    assert [run.outcome() for run in runs].count(None) >= len(runs) // 2
+    rng = random.Random(32)
+    counts = {len(panels.storm_run(rng).points) for _ in range(200)}
+    same(counts >= {2, 16, 17, 18, 64, 65}, True)
+
+
+# Mistakes in check 19: what each does in place of the checks of a traverse, or of one
+# of the two calls. Where the most points are our own program's, there is no panel.
+
+
+def on_panel(most):
+    return most < march.MOST_POINTS
+
+
+def panel_after(number):
+    """19 behind the traverse's check of that number. Before 5, it is told of more
+    than 65 points too."""
+
+    def mistake(traverse, most=march.MOST_POINTS, right=march.check_traverse):
+        refusal = right(traverse)
+        if refusal and refusal.number <= number:
+            return refusal
+        if on_panel(most) and len(traverse.points) > most:
+            return march.Refusal(19, len(traverse.points))
+        return refusal
+
+    return mistake
+
+
+def panel_where(refused, number=19, place=lambda count: count):
+    """Other counts of points refused, or another number or place."""
+
+    def mistake(traverse, most=march.MOST_POINTS, right=march.check_traverse):
+        count = len(traverse.points)
+        if on_panel(most) and refused(count):
+            return march.Refusal(number, place(count))
+        return right(traverse)
+
+    return mistake
+
+
+def panel_behind(number):
+    """19 of a record behind the record's check of that number."""
+
+    def mistake(
+        traverse, state, rows, setup, record, formulas=march.Fractions, most=march.MOST_POINTS,
+        right=march.take_record,
+    ):  # fmt: skip
+        own = right(*map(copy.copy, (traverse, state, rows, setup, record)), formulas)
+        if isinstance(own, march.Refusal) and calms.before(own, march.Refusal(number, 99)):
+            return own
+        return right(traverse, state, rows, setup, record, formulas, most)
+
+    return mistake
+
+
+def program_too(traverse, most=march.MOST_POINTS, right=march.check_traverse):
+    return right(traverse, PANEL)
+
+
+def opens_any(traverse, most=march.MOST_POINTS, right=march.open_traverse):
+    return right(traverse)
+
+
+def takes_any(*lent, most=march.MOST_POINTS, right=march.take_record):
+    return right(*lent[:6])
+
+
+PANEL_MISTAKES = (
+    ("no check", "check_traverse", panel_where(lambda count: False)),
+    ("before 5, past 65 points too", "check_traverse", panel_after(4)),
+    ("fewer than 2 points too", "check_traverse", panel_where(lambda n: n < 2 or panels.too_long(n))),
+    ("after 6", "check_traverse", panel_after(6)),
+    ("after 7", "check_traverse", panel_after(7)),
+    ("a record's after 8", "take_record", panel_behind(8)),
+    ("a record's after 9", "take_record", panel_behind(9)),
+    ("a record's after 18", "take_record", panel_behind(18)),
+    ("a record's after the march", "take_record", panel_behind(12)),
+    ("17 points refused", "check_traverse", panel_where(lambda n: 17 <= n <= 65)),
+    ("18 points accepted", "check_traverse", panel_where(lambda n: 19 <= n <= 65)),
+    ("18 points alone refused", "check_traverse", panel_where(lambda n: n == 18)),
+    ("65 points accepted", "check_traverse", panel_where(lambda n: 18 <= n <= 64)),
+    ("place 17", "check_traverse", panel_where(panels.too_long, place=lambda n: 17)),
+    ("place 18", "check_traverse", panel_where(panels.too_long, place=lambda n: 18)),
+    ("place 0", "check_traverse", panel_where(panels.too_long, place=lambda n: 0)),
+    ("place: segments", "check_traverse", panel_where(panels.too_long, place=lambda n: n - 1)),
+    ("place: points too many", "check_traverse", panel_where(panels.too_long, place=lambda n: n - 17)),
+    ("5 in place of 19", "check_traverse", panel_where(panels.too_long, number=5)),
+    ("in opening alone", "take_record", takes_any),
+    ("in taking a record alone", "open_traverse", opens_any),
+    ("by our own program too", "check_traverse", program_too),
+)
+
+
+def panel_outcomes(traverses, asked):
+    """What both pairs of calls answer."""
+    opened = [march.open_traverse(traverse, most) for traverse in traverses for most in LIMITS]
+    return opened, [told_and_left(call, most)[0] for call in asked for most in LIMITS]
+
+
+def test_panel_mistakes_are_noticed():
+    given = list(panels.traverses()), list(panels.calls())
+    right = panel_outcomes(*given)
+    for label, name, mistake in PANEL_MISTAKES:
+        with mock.patch.object(march, name, mistake):
+            wrong = panel_outcomes(*given)
+            by_hand = one_fails(test_panel_counts, test_panel_order)
+        noticed = [sum(a != b for a, b in zip(*both)) for both in zip(wrong, right)]
+        shown = (label, noticed[0], len(right[0]), noticed[1], len(right[1]))
+        print("  %-30s noticed in %3d of %d openings, %4d of %d records" % shown)
+        assert by_hand, label
+        assert (noticed[0] > 1) == (name != "take_record"), label
+        assert (noticed[1] > 1) == (name != "open_traverse"), label
+
+
+def test_pairs_are_compared():
+    """calls.py asks nothing that the pairs would answer differently."""
+    asked = calls.panel_openings, calls.panel_calls, calls.panel_lists
+    with mock.patch.object(march, "check_traverse", panel_where(lambda n: 17 <= n <= 65)):
+        same([one_fails(lambda: list(requests())) for requests in asked], [True] * 3)
 
 
 # Text, by hand from the readings of document 01.
@@ -795,11 +1039,17 @@ def test_driver_answers():
     driver = "%s %s" % (sys.executable, os.path.join(here, "refdriver.py"))
     only = "--only=limit,room,answer,random"
     decks_only = "--only=answer,fault,random"
-    for tool in (["calls.py"], ["make_calls.py", only], ["deck_calls.py", decks_only]):
+    for tool, changed in (
+        (["calls.py"], ["--only=open", "--only=panel_open"]),
+        (["make_calls.py", only], [only]),
+        (["deck_calls.py", decks_only], [decks_only]),
+    ):
         command = [sys.executable, os.path.join(here, tool[0]), driver, "300", "2", *tool[1:]]
         same(subprocess.run(command, stdout=subprocess.DEVNULL).returncode, 0)
         command[2] = driver + " | sed s/5/6/"
-        same(subprocess.run(command, stdout=subprocess.DEVNULL).returncode, 1)
+        for kinds in changed:
+            done = subprocess.run([*command, kinds], stdout=subprocess.DEVNULL)
+            same(done.returncode, 1)
 
 
 # The storm maker of document 02, by hand from its readings.

@@ -7,12 +7,14 @@ module surge
   implicit none
 
   ! The version of the header and its library; the number is 10,000 * major + 100 * minor + patch.
-  character(*), parameter :: fennhop_version = '2.0.0'
-  integer, parameter :: fennhop_version_number = 20000
+  character(*), parameter :: fennhop_version = '2.1.0'
+  integer, parameter :: fennhop_version_number = 20100
 
-  ! The most points of a traverse, and the most segments between them.
+  ! The most points of a traverse, and the most segments between them; and the same on the panel.
   integer(c_size_t), parameter :: fennhop_most_points = 65
   integer(c_size_t), parameter :: fennhop_most_segments = 64
+  integer(c_size_t), parameter :: fennhop_panel_most_points = 17
+  integer(c_size_t), parameter :: fennhop_panel_most_segments = 16
 
   ! The most rows of a list of winds.
   integer(c_size_t), parameter :: fennhop_most_winds = 50
@@ -52,6 +54,7 @@ module surge
   integer(c_int64_t), parameter :: fennhop_refused_card_unit = 16      ! a number of a deck that is no whole count of tenths
   integer(c_int64_t), parameter :: fennhop_refused_card_counts = 17    ! not as many depths of a deck as distances
   integer(c_int64_t), parameter :: fennhop_refused_calm_angle = 18     ! a wind of 0 with an angle other than 0
+  integer(c_int64_t), parameter :: fennhop_refused_panel_points = 19   ! on the panel: more than 17 points, and no more than 65
 
   ! Returned where an array that has one length is lent with another.
   integer(c_int64_t), parameter :: fennhop_wrong_buffer = 255
@@ -75,6 +78,28 @@ module surge
     function fennhop_take_record(latitude, friction, initial, points, points_count, seconds, tide, storm, storm_count, &
                                  state, state_count, rows, rows_count, setup, setup_count, answer, answer_count) &
                                  bind(c) result(number)
+      import :: c_int64_t, c_size_t, fennhop_row
+      integer(c_int64_t), value :: latitude, friction, initial, seconds, tide
+      integer(c_int64_t), intent(in) :: points(*), storm(*)
+      integer(c_size_t), value :: points_count, storm_count, state_count, rows_count, setup_count, answer_count
+      integer(c_int64_t), intent(inout) :: state(*), setup(*), answer(*)
+      type(fennhop_row), intent(inout) :: rows(*)
+      integer(c_int64_t) :: number
+    end function
+
+    function fennhop_panel_open_traverse(latitude, friction, initial, points, points_count, &
+                                         state, state_count, answer, answer_count) bind(c) result(number)
+      import :: c_int64_t, c_size_t
+      integer(c_int64_t), value :: latitude, friction, initial
+      integer(c_int64_t), intent(in) :: points(*)
+      integer(c_size_t), value :: points_count, state_count, answer_count
+      integer(c_int64_t), intent(inout) :: state(*), answer(*)
+      integer(c_int64_t) :: number
+    end function
+
+    function fennhop_panel_take_record(latitude, friction, initial, points, points_count, seconds, tide, storm, storm_count, &
+                                       state, state_count, rows, rows_count, setup, setup_count, answer, answer_count) &
+                                       bind(c) result(number)
       import :: c_int64_t, c_size_t, fennhop_row
       integer(c_int64_t), value :: latitude, friction, initial, seconds, tide
       integer(c_int64_t), intent(in) :: points(*), storm(*)

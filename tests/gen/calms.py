@@ -16,14 +16,15 @@ Fault = namedtuple("Fault", "number place change")
 
 class Lent:
     """What a call that takes a record is lent; faults change it where it stands.
-    The record is the run's last. A first one comes on rows that were made up too."""
+    The record is the run's last. A first one comes on rows that were made up too.
+    Distances are `step` apart."""
 
-    def __init__(self, later, places=0):
-        points = [[100 * (POINTS - 1 - i), 9000] for i in range(POINTS)]
-        field = [[500 + 100 * i, 300 + 700 * i, 5 * i] for i in range(POINTS)]
+    def __init__(self, later, places=0, count=POINTS, step=100):
+        points = [[step * (count - 1 - i), 9000] for i in range(count)]
+        field = [[500 + 100 * (i % 5), (300 + 700 * i) % 3600, 5 * (i % 60)] for i in range(count)]
         self.run = Run(300, 10, 0, points, [[4 if later else 0, -300] + field])
         self.state = march.State(1000, True) if later else march.State(0, False)
-        self.rows = [march.Row(-7 * i, 900 * i, 1000 * i) for i in range(POINTS - 1)]
+        self.rows = [march.Row(-7 * i, 900 * i, 1000 * i) for i in range(count - 1)]
         self.places = [1_111_111 * i for i in range(places)]
 
     def call(self):
@@ -31,8 +32,8 @@ class Lent:
         record = self.run.record_list()[-1]
         return self.run.traverse(), self.state, list(self.rows), list(self.places), record
 
-    def outcome(self):
-        answer = march.take_record(*self.call())
+    def outcome(self, **how):
+        answer = march.take_record(*self.call(), **how)
         return tuple(answer) if isinstance(answer, march.Refusal) else None
 
 
@@ -130,10 +131,10 @@ def value_faults(later):
             yield Fault(9, place, number_to(point, index, value))
 
 
-def segment_faults():
+def segment_faults(places=range(1, POINTS)):
     """A segment without water, and one with too much setup, a calm at one end or
     none."""
-    for place in range(1, POINTS):
+    for place in places:
         yield Fault(10, place, ends_to(place, 0))
         yield Fault(12, place, ends_to(place, 45, 2000, 0))
 

@@ -1,7 +1,8 @@
 # Opening a traverse and taking a record: the limits, the checks 5 to 12 in
-# document 01's order with their places, check 18 of document 02 (request Q-4)
-# behind check 9, and the steps of one record. Rows and setup places are lists
-# lent by the caller; a refused record leaves them, and the state, as they were.
+# document 01's order with their places, of document 02 check 18 behind check 9
+# (request Q-4) and check 19 behind check 5 (request Q-5), and the steps of one
+# record. Rows and setup places are lists lent by the caller; a refused record
+# leaves them, and the state, as they were.
 
 from collections import namedtuple
 
@@ -35,7 +36,11 @@ WATER_DEPTH = (100, 100_000)
 SETUP = (-1_000_000, 1_000_000)
 CROSS_SUM = (-2_572_800_000_000, 2_572_800_000_000)
 ELAPSED = (0, 1_000_000_000)
-POINTS = (2, 65)
+# The most points of a traverse: our own program's, which has 64 segments, and the
+# harbour panel's, which has 16 (request Q-5).
+MOST_POINTS = 65
+PANEL_MOST_POINTS = 17
+POINTS = (2, MOST_POINTS)
 STEP = (1, 100)
 
 
@@ -56,11 +61,15 @@ def both_within(pair, limits):
     return within(pair[0], limits) and within(pair[1], limits)
 
 
-def check_traverse(traverse):
-    """Checks 5 to 7: the first refusal, or None."""
+def check_traverse(traverse, most=MOST_POINTS):
+    """Checks 5, 19, 6 and 7: the first refusal, or None. Where the most points are
+    the panel's: "It refuses a longer traverse on the panel only (19), with the points
+    given, after check 5". More than 65 points are 5 there too."""
     points = traverse.points
     if not within(len(points), POINTS):
         return Refusal(5, len(points))
+    if len(points) > most:
+        return Refusal(19, len(points))
     if not (
         within(traverse.latitude, LATITUDE)
         and within(traverse.friction, FRICTION)
@@ -79,9 +88,9 @@ def check_traverse(traverse):
     return None
 
 
-def open_traverse(traverse):
+def open_traverse(traverse, most=MOST_POINTS):
     """A refusal, or the state before the first record."""
-    return check_traverse(traverse) or State(0, False)
+    return check_traverse(traverse, most) or State(0, False)
 
 
 def fresh_rows(traverse):
@@ -182,11 +191,13 @@ def segments_of(traverse, state, rows, record):
         )
 
 
-def take_record(traverse, state, rows, setup, record, formulas=Fractions):
+def take_record(
+    traverse, state, rows, setup, record, formulas=Fractions, most=MOST_POINTS
+):
     """A refusal, or the shore height's range with the new state. Writes rows
     and setup places only when the record is accepted."""
     refusal = (
-        check_traverse(traverse)
+        check_traverse(traverse, most)
         or check_lent(traverse, rows, setup, record)
         or check_record(state, record)
         or check_calms(record)

@@ -16,10 +16,10 @@ use Rattle.records.specs.declared.Refusal.{Refusal}
 use Rattle.records.specs.declared.Station.{Station}
 use Rattle.records.specs.declared.Kind.TheVariants as kind
 use Rattle.records.specs.Groups.{wholes, group_at, station_count, of_station}
-use Rattle.records.specs.Limits.{inside, count_ok, most_points, latitude_ok, friction_ok, initial_ok, head_ok}
+use Rattle.records.specs.Limits.{inside, count_ok, latitude_ok, friction_ok, initial_ok, head_ok}
 use Rattle.records.specs.Refusals.{refusal}
 use Rattle.records.specs.Shapes.{traverse}
-use Rattle.records.proofs.LimitLaws.{and_left, and_right}
+use Rattle.records.proofs.LimitLaws.{and_left, and_right, counts-in}
 use Rattle.records.proofs.GroupLaws.{wholes-times}
 use Rattle.listing.specs.Decimal.{signed_text}
 use Rattle.listing.specs.Lines.{values_line}
@@ -32,7 +32,6 @@ use Rattle.reader.specs.declared.traverse.Known.{Known}
 use Rattle.reader.specs.declared.traverse.Known.TheVariants.{Names, Values, Columns, Points}
 use Rattle.reader.specs.declared.traverse.TraverseRead.{TraverseRead}
 use Rattle.reader.proofs.Laws.{never}
-use Rattle.reader.proofs.StormLaws.{counts-in}
 use Rattle.reader.proofs.TraverseLaws.{rest_end, rest-line}
 use Rattle.reader.proofs.TraverseLent.{stored-size, stored-at}
 use Rattle.deck.specs.declared.cards.Word.{Word}
@@ -195,8 +194,8 @@ head-nine h e =
 
 -- what the ordinary reader makes of the text of the points ds and hs
 pub record TextRead (h : Head) (ds hs text : List ℕ) : Type 0 where
-  pub points : count_ok most_points (length ds) ≡ true → traverse_of text ≡ read (traverse h (paired ds hs)) (length text) (3 + length ds)
-  pub count : count_ok most_points (length ds) ≡ false → traverse_of text ≡ refused (refusal kind.Points (length ds))
+  pub points : count_ok (length ds) ≡ true → traverse_of text ≡ read (traverse h (paired ds hs)) (length text) (3 + length ds)
+  pub count : count_ok (length ds) ≡ false → traverse_of text ≡ refused (refusal kind.Points (length ds))
 
 points-room : station_count no_points ≡ 65
 points-room = wholes-times 2 65 (omega arith)
@@ -211,7 +210,7 @@ module _ (s : List ℕ) (h : Head) (at : ℕ) (ds hs : List ℕ) (e : rest_at s 
   unfolding counted_by
   ends = record {
     points = λ k.
-        let c = counts-in most_points (length ds) k in
+        let c = counts-in (length ds) k in
         let z : station_count r.points ≡ 65 = ap (wholes 2) r.size ∙ points-room in
         answer-is ∙ rw (ne_eqb (length ds) 0 (omega arith), k, z, le-ltb 65 (length ds) (omega arith)) (rw (r.same (omega (arith, points-room))));
     count = λ k. answer-is ∙ rw (ne_eqb (length ds) 0 (omega arith), k);

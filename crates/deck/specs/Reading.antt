@@ -2,7 +2,7 @@
 use Rattle.std.specs.Prelude.{◌≡◌, true, false, ℕ, ◌+◌, ◌^◌, ◌<◌, List, [], ◌∷◌, length, take, ℤ, pos, Ok}
 use Rattle.records.specs.declared.Head.{Head}
 use Rattle.records.specs.declared.Kind.TheVariants.{Points}
-use Rattle.records.specs.Limits.{count_ok, most_points}
+use Rattle.records.specs.Limits.{count_ok}
 use Rattle.records.specs.Refusals.{refusal}
 use Rattle.records.specs.Shapes.{traverse}
 use Rattle.reader.specs.Lines.{read, refused as not_read}
@@ -22,9 +22,9 @@ pub record ReadBack (h : Head) (s text : List ℕ) : Type 0 where
   pub depths : List ℕ
   pub deck : deck_of s ≡ cards distances depths
   pub same : length distances ≡ length depths
-  pub points : count_ok most_points (length distances) ≡ true
+  pub points : count_ok (length distances) ≡ true
       → traverse_of text ≡ read (traverse h (paired distances depths)) (length text) (3 + length distances)
-  pub count : count_ok most_points (length distances) ≡ false → traverse_of text ≡ not_read (refusal Points (length distances))
+  pub count : count_ok (length distances) ≡ false → traverse_of text ≡ not_read (refusal Points (length distances))
 
 -- of every call that wrote a text: what it wrote, which is the front of what was lent
 abbrev pub DeckIsRead : Type 0

@@ -8,14 +8,14 @@ use native.Mathlib.Omega.{arith}
 use Prim.Native.Nat.{ℕ, ◌+◌, ◌*◌, ◌<◌}
 use lib.ListN.{length}
 use lib.IntN.{ℤ}
-use Rattle.records.specs.Limits.{count_ok, most_points}
+use Rattle.records.specs.Limits.{count_ok}
 use Rattle.records.specs.declared.Refusal.{Refusal}
 use Rattle.reader.specs.declared.Cursor.{Cursor}
 use Rattle.reader.specs.declared.storm.Halt.{Halt}
 use Rattle.reader.specs.declared.storm.Halt.TheVariants as halt
 use Rattle.reader.specs.Lines.{Leaves, leaves, holds}
 use Rattle.reader.specs.Storm.{storm_start, answered, next_left, start_step, holds_record, record_step_left, longest_record}
-use Rattle.reader.proofs.StormLaws.{counts-in}
+use Rattle.records.proofs.LimitLaws.{counts-in}
 pub use Rattle.reader.proofs.Ends.{holds_not}
 
 -- ---- a storm text
@@ -46,7 +46,7 @@ AsksRecord size at (Err (halt.Refused r)) = Unit {0}
 
 pub record-asks : (w : List ℕ) (last : Bool) (n at line : ℕ) (lent : List ℤ) → AsksRecord (length w) at (record_step_left w last n at line lent).answer
 unfolding record_step_left holds_record
-record-asks w last n at line lent = go (count_ok most_points n) refl (holds (length w) last at (n * 55)) refl
+record-asks w last n at line lent = go (count_ok n) refl (holds (length w) last at (n * 55)) refl
   where
     stepped : Bool → Leaves (Result (Option Cursor) Halt)
     stepped b = cond b (leaves (answered (next_left w n at line lent).answer) (next_left w n at line lent).numbers) (leaves (Err halt.More) lent)
@@ -55,7 +55,7 @@ record-asks w last n at line lent = go (count_ok most_points n) refl (holds (len
     whole (Ok c) = tt
     whole (Err q) = tt
 
-    go : (b : Bool) → count_ok most_points n ≡ b → (c : Bool) → holds (length w) last at (n * 55) ≡ c → AsksRecord (length w) at (stepped (cond b c true)).answer
+    go : (b : Bool) → count_ok n ≡ b → (c : Bool) → holds (length w) last at (n * 55) ≡ c → AsksRecord (length w) at (stepped (cond b c true)).answer
     go true e true f = whole (next_left w n at line lent).answer
-    go true e false f = let k = counts-in most_points n e in omega (arith, (holds_not (length w) last at (n * 55) f).0)
+    go true e false f = let k = counts-in n e in omega (arith, (holds_not (length w) last at (n * 55) f).0)
     go false e c f = whole (next_left w n at line lent).answer

@@ -7,14 +7,13 @@ use native.Mathlib.Omega.{arith}
 use Prim.Native.Nat.{ℕ}
 use lib.ListN.{length, take}
 use lib.IntN.{ℤ}
-use Rattle.records.specs.Limits.{most_points}
 use Rattle.records.proofs.GroupLaws.{wholes-fit}
 use Rattle.records.specs.declared.Refusal.{Refusal}
 use Rattle.reader.specs.declared.traverse.TraverseRead.{TraverseRead}
 use Rattle.reader.specs.declared.traverse.Progress.{Progress}
 use Rattle.reader.specs.declared.traverse.Progress.TheVariants as progress
 use Rattle.reader.specs.Lent.{HasTraverse}
-use Rattle.reader.proofs.StormLaws.{counts-in}
+use Rattle.records.proofs.LimitLaws.{counts-in}
 use Rattle.reader.proofs.TraverseLent.{step-has-traverse}
 use Rattle.files.specs.declared.Stop.{Stop}
 use Rattle.files.specs.TraverseFile.{file_by, Reading, step_of, Loads, HasPoints}
@@ -25,7 +24,7 @@ unfolding step_of
 read_has x t e =
     let s = step_of x in
     let has : HasTraverse t.count s.numbers = step-has-traverse (take x.have x.window) x.last x.held 0 x.line t e in
-    let n = counts-in most_points t.count has.counted in
+    let n = counts-in t.count has.counted in
     (n.0, omega (arith, has.room, wholes-fit 2 (length s.numbers)), n.1)
 
 -- and so of what the call answers

@@ -15,7 +15,7 @@ use Rattle.records.specs.declared.Closing.{Closing}
 use Rattle.records.specs.declared.Kind.TheVariants.{Lent, StormValue, WindRadii}
 use Rattle.records.specs.CheckOrder.{Check, Pass, AllPass}
 use Rattle.records.specs.Groups.{point_at, of_point, groups}
-use Rattle.records.specs.Limits.{inside, count_ok, most_points, wind_ok, angle_ok, point_ok, calm, direction_ok, calm_ok}
+use Rattle.records.specs.Limits.{inside, count_ok, wind_ok, angle_ok, point_ok, calm, direction_ok, calm_ok}
 use Rattle.records.specs.Refusals.{refusal}
 use Rattle.records.proofs.CheckOrderLaws.{need-passed, each-passed, first-passed}
 use Rattle.records.proofs.GroupLaws.{groups-same, groups-length, groups-at, flat-length, point-flat}
@@ -100,12 +100,12 @@ module _ (h : Hurricane) (winds sites : List ℤ) (room : ℕ) where
       let a = need-passed _ (refusal StormValue 0) all.0 in
       let w = wind_count winds in
       let n = site_count sites in
-      let counts = and_right (hurricane_ok h) (wind_count_ok w && count_ok most_points n) a in
-      let many = and_right (wind_count_ok w) (count_ok most_points n) counts in
+      let counts = and_right (hurricane_ok h) (wind_count_ok w && count_ok n) a in
+      let many = and_right (wind_count_ok w) (count_ok n) counts in
       record {
-        hurricane = hurricane-in h (and_left (hurricane_ok h) (wind_count_ok w && count_ok most_points n) a);
+        hurricane = hurricane-in h (and_left (hurricane_ok h) (wind_count_ok w && count_ok n) a);
         winds-in = record {
-          some = leb-true 1 w (and_left (leb 1 w) (leb w 50) (and_left (wind_count_ok w) (count_ok most_points n) counts));
+          some = leb-true 1 w (and_left (leb 1 w) (leb w 50) (and_left (wind_count_ok w) (count_ok n) counts));
           rows = λ i l. wind-row-in (wind_row_at winds i) (each-passed StormValue (wind_rows_ok winds) w all.1.0 i l);
           rising = λ i l. rising winds i (each-passed WindRadii (rising_ok winds) w all.1.1.1.0 (i + 1) l);
         };

@@ -3,7 +3,7 @@ use Rattle.std.specs.Prelude.{Bool, ◌&&◌, ◌||◌, List, [], ◌∷◌, ℕ
 use Rattle.std.specs.Int.Signed.{lt_z}
 use Rattle.records.specs.declared.Kind.TheVariants.{Lent, StormValue, WindRadii}
 use Rattle.records.specs.CheckOrder.{Check, need, each, first_of}
-use Rattle.records.specs.Limits.{count_ok, most_points}
+use Rattle.records.specs.Limits.{count_ok}
 use Rattle.records.specs.Refusals.{refusal}
 use Rattle.hurricane.specs.declared.Hurricane.{Hurricane}
 use Rattle.hurricane.specs.Groups.{wind_count, wind_row_at, site_count, plane_point_at}
@@ -23,7 +23,7 @@ rising_ok winds i = eqb i 0 || lt_z (wind_row_at winds (i - 1)).radius (wind_row
 -- place 0, last". Here for room of so many numbers
 unfoldable pub make_checks : Hurricane → List ℤ → List ℤ → ℕ → List Check
 make_checks h winds sites room =
-    need (hurricane_ok h && (wind_count_ok (wind_count winds) && count_ok most_points (site_count sites))) (refusal StormValue 0)
+    need (hurricane_ok h && (wind_count_ok (wind_count winds) && count_ok (site_count sites))) (refusal StormValue 0)
     ∷ each StormValue (wind_rows_ok winds) (wind_count winds)
     ∷ each StormValue (sites_ok sites) (site_count sites)
     ∷ each WindRadii (rising_ok winds) (wind_count winds)

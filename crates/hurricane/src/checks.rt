@@ -3,14 +3,14 @@
 #![tactic(auto, unfolding(crate::specs::Checks::rising_ok))]
 
 ghost use Rattle.std.specs.Prelude.{◌≡◌, ◌&&◌, ◌+◌, ◌*◌, ◌≤◌, length};
-ghost use Rattle.records.specs.Limits.{count_ok, most_points};
+ghost use Rattle.records.specs.Limits.{count_ok};
 ghost use Rattle.hurricane.specs.Limits.{hurricane_ok, wind_count_ok};
 ghost use Rattle.hurricane.specs.Checks.{rising_ok, make_check};
 
 use super::limits::{hurricane_ok, plane_point_ok, wind_count_ok, wind_row_ok};
 use super::{Hurricane, PlanePoint, WindRow};
 use records::groups::{Group, count, group_at};
-use records::limits::{POINTS_MOST, count_ok};
+use records::limits::count_ok;
 use records::{Kind, Point, Refusal, each, need};
 
 // Whether row i has a greater radius than the row before it. The first row has none before it.
@@ -28,9 +28,9 @@ pub fn rising_at(winds: &[i64], i: usize) -> bool
 
 // Check 13, place 0: pressures, R, centre and both counts.
 pub fn numbers_ok(h: Hurricane, rows: usize, points: usize) -> bool
-    ensures { result ≡ (hurricane_ok h && (wind_count_ok rows && count_ok most_points points)) }
+    ensures { result ≡ (hurricane_ok h && (wind_count_ok rows && count_ok points)) }
 {
-    hurricane_ok(h) && wind_count_ok(rows) && count_ok(POINTS_MOST, points)
+    hurricane_ok(h) && wind_count_ok(rows) && count_ok(points)
 }
 
 // All of them, for room of so many numbers.

@@ -8,7 +8,7 @@ use lib.Dec.{ltb, eqb}
 use lib.ListN.{length}
 use lib.IntN.{ℤ}
 use borrow.Author.Tests.{le-ltb}
-use Rattle.records.specs.Limits.{count_ok, most_points}
+use Rattle.records.specs.Limits.{count_ok}
 use Rattle.records.specs.Shapes.{Traverse, Record, count}
 use Rattle.reader.specs.declared.Cursor.{Cursor}
 use Rattle.std.specs.Prelude.{Option, Some, Result, Ok}
@@ -30,7 +30,7 @@ step_room w last n at line lent out p c e f =
 -- lent numbers with room for a record are not too few
 room-enough : (n size : ℕ) → record_size n ≤ size → too_few n size ≡ false
 unfolding too_few
-room-enough n size h = go (count_ok most_points n)
+room-enough n size h = go (count_ok n)
   where
     go : (b : Bool) → (b && ltb size (record_size n)) ≡ false
     go true = le-ltb size (record_size n) h

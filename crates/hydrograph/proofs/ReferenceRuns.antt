@@ -20,7 +20,7 @@ use Rattle.forcing.specs.Quadrant.{sine_of, cosine_of}
 use Rattle.forcing.specs.Stress.{stress_of, cross_of, onshore_of}
 use Rattle.forcing.specs.Force.{force_of}
 use Rattle.records.specs.Groups.{wholes, group_at, put_group, groups, flat}
-use Rattle.records.specs.Limits.{inside, range_inside, count_ok, head_ok, station_ok, seconds_ok, point_ok, calm_ok, row_ok}
+use Rattle.records.specs.Limits.{inside, range_inside, count_ok, build_has, head_ok, station_ok, seconds_ok, point_ok, calm_ok, row_ok}
 use Rattle.records.specs.Refusals.{number_of}
 use Rattle.records.specs.Rows.{fresh_row}
 use Rattle.records.specs.Shapes.{storm}
@@ -232,7 +232,7 @@ our_runs =
 -- ---- the facts
 
 all_runs : Agree reference_runs × Agree our_runs
-unfolding ◌/F◌ lesser greater nearest quotient_low quotient_high damped_least damped_most damped_low damped_high damped_floor damped_ceil scaled_sine sine_entry sine_of cosine_of stress_of cross_of onshore_of force_of wholes group_at put_group groups flat inside range_inside count_ok head_ok station_ok seconds_ok point_ok row_ok depth_of flux_of gain_of next_setup segment_of shore_base first_bad spacing_ok first_of traverse_checks open_of places_ok lent_checks times_ok record_checks checks_of calm_ok march_by segment_at take_of digits_of decimal_of signed_text values_line refused_line more digit_at digits worth good_of signed_value start_at good_at value_at past_at close_of repeated kept_with same_with values_at lines_at spells names_at storm_start record_of next_at records_by storm_rest storm_of start with_values stored_at with_point line_at counted_by end_at rest_by rest_at traverse_of hydrograph_lines listing_of
+unfolding ◌/F◌ lesser greater nearest quotient_low quotient_high damped_least damped_most damped_low damped_high damped_floor damped_ceil scaled_sine sine_entry sine_of cosine_of stress_of cross_of onshore_of force_of wholes group_at put_group groups flat inside range_inside count_ok build_has head_ok station_ok seconds_ok point_ok row_ok depth_of flux_of gain_of next_setup segment_of shore_base first_bad spacing_ok first_of traverse_checks open_of places_ok lent_checks times_ok record_checks checks_of calm_ok march_by segment_at take_of digits_of decimal_of signed_text values_line refused_line more digit_at digits worth good_of signed_value start_at good_at value_at past_at close_of repeated kept_with same_with values_at lines_at spells names_at storm_start record_of next_at records_by storm_rest storm_of start with_values stored_at with_point line_at counted_by end_at rest_by rest_at traverse_of hydrograph_lines listing_of
 all_runs = (refl, refl)
 
 -- the paper's table

@@ -11,7 +11,7 @@ use lib.IntN.{ℤ}
 use borrow.Author.Tests.{ltb-false, leb-true, leb-false, le-ltb, lt-leb, ne_eqb}
 use Rattle.records.specs.declared.Kind.TheVariants.{Names, Ended, Points}
 use Rattle.records.specs.Refusals.{refusal}
-use Rattle.records.specs.Limits.{most_points, count_ok}
+use Rattle.records.specs.Limits.{count_ok}
 use Rattle.records.specs.Shapes.{Traverse, count}
 use Rattle.listing.specs.Lines.{record_line}
 use Rattle.std.specs.Prelude.{Result, Ok, Err}
@@ -22,7 +22,7 @@ use Rattle.reader.specs.Text.{more}
 use Rattle.reader.specs.Lines.{Outcome, read, refused, found, Line, full, bad, values_at, lines_read, after, lines_at, names_at, spells, holds}
 use Rattle.reader.specs.Storm.{record_of, record_lines, Further, one, none, next_at, storm_names, storm_start, storm_by, storm_rest, storm_from, storm_of, start_step, answered, holds_record, seen, needs-more, record_step, longest_record}
 use Rattle.reader.specs.Window.{Shows, moved}
-use Rattle.reader.proofs.StormLaws.{counts-in}
+use Rattle.records.proofs.LimitLaws.{counts-in}
 use Rattle.reader.proofs.Ends.{Stays, start-stays, Read-on, next-on}
 use Rattle.reader.proofs.Steps.{start-window, next-window, storm-once}
 use Rattle.march.specs.declared.State.{State}
@@ -67,7 +67,7 @@ lines-counted s width shared (suc n) i at line kept h =
 
 next-counted : (s : List ℕ) (n at line : ℕ) → 0 < line → Counted (next_at s n at line)
 unfolding next_at
-next-counted s n at line h = go (count_ok most_points n) (ltb at (length s)) (ltb 1 line) (record_lines s n at line).answer (lines-counted s 5 2 n 0 at line [] h)
+next-counted s n at line h = go (count_ok n) (ltb at (length s)) (ltb 1 line) (record_lines s n at line).answer (lines-counted s 5 2 n 0 at line [] h)
   where
     go : (b c d : Bool) (x : Result Cursor Refusal) → CountedLines x
         → Counted (cond b (cond c (found x (one (record_of (record_lines s n at line).kept))) (cond d (read none at line) (refused (refusal Ended line)))) (refused (refusal Points n)))
@@ -167,7 +167,7 @@ next-within s n at line = go (leb at (length s)) refl
 
     go : (b : Bool) → leb at (length s) ≡ b → Read-on (at + 1) (length s) (next_at s n at line)
     go true e = next-on s n at line (leb-true at (length s) e)
-    go false e = unfold next_at in rw (le-ltb at (length s) (omega (arith, leb-false at (length s) e))) (past (count_ok most_points n) (ltb 1 line))
+    go false e = unfold next_at in rw (le-ltb at (length s) (omega (arith, leb-false at (length s) e))) (past (count_ok n) (ltb 1 line))
 
 module _ (w : List ℕ) (last : Bool) (at : ℕ) where
   start-on : (r : Result Cursor Refusal) → CountedLines r → Stays (length w) r → Advances (length w) last at 0 (said_start (answered r))
@@ -194,7 +194,7 @@ module _ (w : List ℕ) (last : Bool) (at : ℕ) where
 
     record-short : holds_record (length w) last (count t) at ≡ false → holds (length w) last at longest_record ≡ false
     unfolding holds_record
-    record-short e = go (count_ok most_points (count t)) (counts-in most_points (count t)) e
+    record-short e = go (count_ok (count t)) (counts-in (count t)) e
       where
         go : (b : Bool) → (b ≡ true → (2 ≤ count t) × (count t ≤ 65)) → cond b (holds (length w) last at (count t * 55)) true ≡ false → holds (length w) last at longest_record ≡ false
         go true f e = let k = f refl in holds-fewer (length w) last at (count t * 55) at longest_record (omega arith) e

@@ -17,6 +17,7 @@ use listing::decimals::has_room;
 use march::State;
 use reader::{Cursor, Halt, Window};
 use records::groups::{Group, count, group_at};
+use records::limits::POINTS_MOST;
 use records::{Closing, Point, Refusal, Station, StormRecord, Traverse};
 
 // What is carried from turn to turn, lent beside the numbers: the cursor in the window, and the state.
@@ -94,7 +95,7 @@ fn taken(
         closing: group_at(numbers, 0),
         points: &numbers[Closing::NUMBERS..end],
     };
-    match march::take_record(traverse, storm, &mut run.state, rows, &mut []) {
+    match march::take_record(POINTS_MOST, traverse, storm, &mut run.state, rows, &mut []) {
         Ok(height) => {
             run.cursor = c;
             let line = Line::Record {
@@ -179,7 +180,7 @@ pub fn begin(traverse: Traverse, out: &mut [u8], used: usize) -> (Turn, Run)
     if !has_line_room(out.len(), used) {
         return (Turn::Full, run);
     }
-    match march::open_traverse(traverse) {
+    match march::open_traverse(POINTS_MOST, traverse) {
         Ok(_) => (Turn::Line(put_line(Line::Names, out, used)), run),
         Err(refusal) => (refuse(refusal, out, used), run),
     }

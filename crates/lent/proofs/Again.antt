@@ -25,7 +25,7 @@ use Rattle.reader.specs.Text.{more}
 use Rattle.reader.specs.Lines.{Outcome, read, refused, found, Leaves, Line, full, bad, values_at, lines_read, after, lines_at, spells, names_at}
 use Rattle.reader.specs.Traverse.{no_points, traverse_left, traverse_of}
 use Rattle.reader.specs.Storm.{storm_names, storm_start, record_of, record_in, record_lines, Further, one, none, next_at, next_of, too_few, next_left, storm_by, storm_rest, storm_from, storm_of}
-use Rattle.reader.proofs.StormLaws.{counts-in}
+use Rattle.records.proofs.LimitLaws.{counts-in}
 use Rattle.reader.proofs.TraverseLaws.{PastLines, lines-on}
 use Rattle.reader.proofs.Ends.{Stays, start-stays, Read-on, next-on}
 use Rattle.reader.proofs.Steps.{storm-once}
@@ -51,7 +51,7 @@ cursor-again = record { small = small-again; in-text = λ text h c on. let a = o
 
 pub open-again : OpenAgain
 unfolding open_call buffers_ok open_of
-open-again head points x = by (traverse_check most_points t) (x.kept ∙ rw (x.state-is, x.answer-is))
+open-again most head points x = by (traverse_check most t) (x.kept ∙ rw (x.state-is, x.answer-is))
   where
     t : Traverse
     t = traverse head points
@@ -71,11 +71,11 @@ module _ (text : List ℕ) (x : TraverseReading text) where
   unfolding read_traverse_call traverse_buffers open_call
   traverse-read t place line e =
       let r = traverse-is-read text no_points enough t place line e in
-      let n = counts-in most_points (count t) r.2 in
+      let n = counts-in (count t) r.2 in
       let c : x.left ≡ left_traverse 0 (head_numbers t.head) (traverse_left text no_points).numbers (answer_numbers (pos 0) (pos (count t)) (pos 0))
       = x.kept ∙ rw (x.head-is, x.points-are, x.answer-is, r.0, whole-place (count t) (omega arith)) in
       let same : traverse (head_left x.left) (points_left x.left) ≡ t = rw (c, r.1) in
-      (ap (λ (z : LeftTraverse). z.number) c, ap (λ (z : LeftTraverse). z.answer) c, same, λ state answer. ap (λ (z : Traverse). open_with z state answer) same)
+      (ap (λ (z : LeftTraverse). z.number) c, ap (λ (z : LeftTraverse). z.answer) c, same, λ most state answer. ap (λ (z : Traverse). open_with most z state answer) same)
 
   traverse-refused : (r : Refusal) → traverse_of text ≡ refused r → TraverseTold x.left (refused r)
   unfolding read_traverse_call traverse_buffers
@@ -133,7 +133,7 @@ LeavesOn s (refused r) = Unit {0}
 
 next-leaves : (s : List ℕ) (n : ℕ) (c : Cursor) → On s c → LeavesOn s (next_at s n c.at c.line)
 unfolding next_at
-next-leaves s n c h = go (count_ok most_points n) (ltb c.at (length s)) (record_lines s n c.at c.line).answer (lines-on s 5 2 n 0 c.at c.line [] (omega arith)) (lines-most s 5 2 n 0 c.at c.line []) (next-on s n c.at c.line h.place)
+next-leaves s n c h = go (count_ok n) (ltb c.at (length s)) (record_lines s n c.at c.line).answer (lines-on s 5 2 n 0 c.at c.line [] (omega arith)) (lines-most s 5 2 n 0 c.at c.line []) (next-on s n c.at c.line h.place)
   where
     rest : (b : Bool) → LeavesOn s (cond b (read none c.at c.line) (refused (refusal Ended c.line)))
     rest true = tt
@@ -185,10 +185,10 @@ start-on s c h = by (eqb c.at 0) refl
 -- 197 numbers are enough for every count of points that is allowed
 never-few : (n : ℕ) → too_few n (length no_numbers) ≡ false
 unfolding too_few
-never-few n = by (count_ok most_points n) refl
+never-few n = by (count_ok n) refl
   where
-    by : (b : Bool) → count_ok most_points n ≡ b → (b && ltb (length no_numbers) (2 + 3 * n)) ≡ false
-    by true e = let k = counts-in most_points n e in le-ltb (length no_numbers) (2 + 3 * n) (omega arith)
+    by : (b : Bool) → count_ok n ≡ b → (b && ltb (length no_numbers) (2 + 3 * n)) ≡ false
+    by true e = let k = counts-in n e in le-ltb (length no_numbers) (2 + 3 * n) (omega arith)
     by false e = refl
 
 next-answer : (s : List ℕ) (n place line : ℕ) → (next_left s n place line no_numbers).answer ≡ next_of (next_at s n place line)

@@ -6,7 +6,6 @@ use Rattle.records.specs.declared.Head.{Head}
 use Rattle.records.specs.declared.Refusal.{Refusal}
 use Rattle.records.specs.Refusals.{number_of}
 use Rattle.records.specs.Groups.{at}
-use Rattle.records.specs.Limits.{most_points}
 use Rattle.records.specs.Shapes.{Traverse, traverse, count, Record, storm}
 use Rattle.march.specs.Answers.{opened}
 use Rattle.march.specs.Checks.{open_of}
@@ -20,20 +19,20 @@ use Rattle.lent.specs.Texts.{LeftTraverse, ReadsTraverse, lent_place, cursor_of,
 
 -- ---- opening a traverse
 
--- a call of `open_traverse` that kept its promise and returned 0
-pub record Opening (head : Head) (points : List ℤ) : Type 0 where
+-- a call of `open_traverse` that kept its promise and returned 0, with a limit on points
+pub record Opening (most : ℕ) (head : Head) (points : List ℤ) : Type 0 where
   pub state : List ℤ
   pub answer : List ℤ
   pub left : LeftOpen
   pub state-is : length state ≡ 2
   pub answer-is : length answer ≡ 3
-  pub kept : Opens head.latitude head.friction head.initial points state answer left
+  pub kept : Opens most head.latitude head.friction head.initial points state answer left
   pub accepted : left.number ≡ 0
 
 -- the traverse is one that the march accepts, and the state that was written is the one that it starts from
 abbrev pub OpenAgain : Type 0
 OpenAgain =
-    (head : Head) (points : List ℤ) (x : Opening head points) → let o = open_of most_points (traverse head points) in
+    (most : ℕ) (head : Head) (points : List ℤ) (x : Opening most head points) → let o = open_of most (traverse head points) in
     (o.answer ≡ opened) × (x.left.state ≡ state_numbers o.state)
 
 -- ---- a traverse text
@@ -55,7 +54,7 @@ TraverseTold x (read t place line) =
     (x.number ≡ 0)
     × (x.answer ≡ answer_numbers (pos 0) (pos (count t)) (pos 0))
     × (traverse (head_left x) (points_left x) ≡ t)
-    × ((state answer : List ℤ) → open_call (at x.head 0) (at x.head 1) (at x.head 2) (points_left x) state answer ≡ open_with t state answer)
+    × ((most : ℕ) (state answer : List ℤ) → open_call most (at x.head 0) (at x.head 1) (at x.head 2) (points_left x) state answer ≡ open_with most t state answer)
 TraverseTold x (refused r) = RefusalTold x.number x.answer r
 
 -- a call of `read_traverse` that kept its promise, on numbers of the right lengths

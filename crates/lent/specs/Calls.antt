@@ -1,8 +1,7 @@
 -- The calls of the march on lent numbers, whatever they are given: what is returned, and everything that was lent. Each is the march's own definition
--- (`open_of`, `take_of`), with numbers for its values. `Opens` is the promise itself: the code's `ensures` and the statements over lists of calls are
--- both of it.
+-- (`open_of`, `take_of`), with numbers for its values, for any limit on points: `most` is 65 in our own library's calls and 17 in the harbour panel's.
+-- `Opens` is the promise itself: the code's `ensures` and the statements over lists of calls are both of it.
 use Rattle.std.specs.Prelude.{◌≡◌, cond, ◌&&◌, List, ◌++◌, ℕ, ◌*◌, leb, length, take, drop, ℤ, pos}
-use Rattle.records.specs.Limits.{most_points}
 use Rattle.records.specs.Shapes.{Traverse, traverse, Record, storm}
 use Rattle.march.specs.declared.State.{State}
 use Rattle.march.specs.Answers.{Told, accepted, refused, ToldOpen, opened, not_opened}
@@ -35,22 +34,22 @@ abbrev pub after_open : ToldOpen → State → List ℤ → LeftOpen
 after_open opened fresh state = left_open 0 (state_numbers fresh) (answer_numbers (pos 0) (pos 0) (pos 0))
 after_open (not_opened number place) fresh state = left_open number state (refused_answer place)
 
-abbrev pub open_with : Traverse → List ℤ → List ℤ → LeftOpen
-open_with t state answer =
-    cond (buffers_ok (length state) (length answer)) (after_open (open_of most_points t).answer (open_of most_points t).state state) (left_open wrong_buffer state answer)
+abbrev pub open_with : ℕ → Traverse → List ℤ → List ℤ → LeftOpen
+open_with most t state answer =
+    cond (buffers_ok (length state) (length answer)) (after_open (open_of most t).answer (open_of most t).state state) (left_open wrong_buffer state answer)
 
-unfoldable pub open_call : ℤ → ℤ → ℤ → List ℤ → List ℤ → List ℤ → LeftOpen
-open_call latitude friction initial points = open_with (traverse_given latitude friction initial points)
+unfoldable pub open_call : ℕ → ℤ → ℤ → ℤ → List ℤ → List ℤ → List ℤ → LeftOpen
+open_call most latitude friction initial points = open_with most (traverse_given latitude friction initial points)
 
 -- the promise of the call, on these and with this left
-abbrev pub Opens : ℤ → ℤ → ℤ → List ℤ → List ℤ → List ℤ → LeftOpen → Type 0
-Opens latitude friction initial points state answer left = left ≡ open_call latitude friction initial points state answer
+abbrev pub Opens : ℕ → ℤ → ℤ → ℤ → List ℤ → List ℤ → List ℤ → LeftOpen → Type 0
+Opens most latitude friction initial points state answer left = left ≡ open_call most latitude friction initial points state answer
 
 -- ---- taking a record
 
 -- what the march makes of the numbers lent, with these for the rows
-abbrev pub march_left : Traverse → Record → State → List ℤ → List ℤ → march.Left
-march_left t r st rows setup = take_of (given most_points t r st rows setup)
+abbrev pub march_left : ℕ → Traverse → Record → State → List ℤ → List ℤ → march.Left
+march_left most t r st rows setup = take_of (given most t r st rows setup)
 
 -- how many of so many numbers n rows are, where so many may be lent and are there
 unfoldable pub rows_size : ℕ → ℕ → ℕ
@@ -76,9 +75,8 @@ abbrev pub numbers_with : march.Left → ℕ → List ℤ → List ℤ → List 
 numbers_with x size state numbers setup answer =
     cond (buffers_ok (length state) (length answer)) (after_numbers x.answer x size state numbers) (left_numbers wrong_buffer state numbers setup answer)
 
-abbrev pub numbers_left : Traverse → Record → ℕ → List ℤ → List ℤ → List ℤ → List ℤ → LeftNumbers
-numbers_left t r size state numbers setup answer = numbers_with (march_left t r (state_of state) (take size numbers) setup) size state numbers setup answer
+abbrev pub numbers_left : ℕ → Traverse → Record → ℕ → List ℤ → List ℤ → List ℤ → List ℤ → LeftNumbers
+numbers_left most t r size state numbers setup answer = numbers_with (march_left most t r (state_of state) (take size numbers) setup) size state numbers setup answer
 
-unfoldable pub take_numbers : ℤ → ℤ → ℤ → List ℤ → ℤ → ℤ → List ℤ → List ℤ → ℕ → List ℤ → List ℤ → List ℤ → LeftNumbers
-take_numbers latitude friction initial points seconds tide storm state n numbers setup answer =
-    numbers_left (traverse_given latitude friction initial points) (storm_given seconds tide storm) (rows_size n (length numbers)) state numbers setup answer
+unfoldable pub take_numbers : ℕ → Traverse → Record → List ℤ → ℕ → List ℤ → List ℤ → List ℤ → LeftNumbers
+take_numbers most t r state n numbers setup answer = numbers_left most t r (rows_size n (length numbers)) state numbers setup answer

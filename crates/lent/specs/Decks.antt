@@ -6,7 +6,7 @@ use Rattle.records.specs.declared.Head.{Head}
 use Rattle.records.specs.declared.Kind.TheVariants.{Points}
 use Rattle.records.specs.declared.Refusal.{Refusal}
 use Rattle.records.specs.Groups.{at}
-use Rattle.records.specs.Limits.{count_ok, most_points}
+use Rattle.records.specs.Limits.{count_ok}
 use Rattle.records.specs.Refusals.{number_of, refusal}
 use Rattle.deck.specs.Cards.{cards, deck_of}
 use Rattle.deck.specs.Deck.{LeftDeck, convert_of}
@@ -60,12 +60,12 @@ pub record DeckTold (h : Head) (deck : List ℕ) (x : LeftTraverse) : Type 0 whe
   pub depths : List ℕ
   pub cards-are : deck_of deck ≡ cards distances depths
   pub same : length distances ≡ length depths
-  pub points : count_ok most_points (length distances) ≡ true
+  pub points : count_ok (length distances) ≡ true
       → (x.number ≡ 0)
       × (x.answer ≡ answer_numbers (pos 0) (pos (length distances)) (pos 0))
       × (head_left x ≡ h)
       × (points_left x ≡ paired distances depths)
-  pub count : count_ok most_points (length distances) ≡ false → RefusalTold x.number x.answer (refusal Points (length distances))
+  pub count : count_ok (length distances) ≡ false → RefusalTold x.number x.answer (refusal Points (length distances))
 
 abbrev pub DeckThenTraverse : Type 0
 DeckThenTraverse = (h : Head) (deck : List ℕ) → length deck < 2 ^ 64 → (d : DeckReading h deck) (t : TraverseReading (text_written d.left)) → DeckTold h deck t.left

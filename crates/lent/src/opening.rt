@@ -1,22 +1,17 @@
-// Opening a traverse.
-#![tactic(auto, unfolding(crate::specs::Numbers::buffers_ok, crate::specs::Calls::open_call))]
+// Opening a traverse, with any limit on points.
+#![tactic(auto, unfolding(crate::specs::Numbers::buffers_ok))]
 
-ghost use Rattle.lent.specs.Calls.{left_open, Opens};
+ghost use Rattle.std.specs.Prelude.{◌≡◌};
+ghost use Rattle.records.specs.Shapes.{traverse_of};
+ghost use Rattle.lent.specs.Calls.{left_open, open_with};
 
 use super::numbers::{STATE, WRONG_BUFFER, tell};
+use records::Traverse;
 use records::groups::Group;
-use records::{Head, Traverse};
 
-// `points` has 2 numbers a point. The number of the refusal is returned, 0 where the traverse is accepted.
-pub fn open_traverse(
-    latitude: i64,
-    friction: i64,
-    initial: i64,
-    points: &[i64],
-    state: &mut [i64],
-    answer: &mut [i64],
-) -> u64
-    ensures { Opens latitude friction initial points.now state.old answer.old (left_open result state.new answer.new) }
+// The traverse may have `most` points. The number of the refusal is returned, 0 where it is accepted.
+pub fn open_traverse(most: usize, traverse: Traverse, state: &mut [i64], answer: &mut [i64]) -> u64
+    ensures { left_open result state.new answer.new ≡ open_with most (traverse_of traverse.entry) state.old answer.old }
 {
     let Some(state) = state.as_mut_array::<STATE>() else {
         return WRONG_BUFFER;
@@ -24,12 +19,7 @@ pub fn open_traverse(
     let Some(answer) = answer.as_mut_array() else {
         return WRONG_BUFFER;
     };
-    let head = Head {
-        latitude,
-        friction,
-        initial,
-    };
-    match march::open_traverse(Traverse { head, points }) {
+    match march::open_traverse(most, traverse) {
         Ok(fresh) => {
             fresh.write(state);
             tell(answer, Ok([0, 0, 0]))

@@ -4,9 +4,9 @@ use mathlib.Core.Bool.{Bool, true, false, ◌&&◌, ◌||◌, not}
 use mathlib.Core.List.{List, [], ◌∷◌, ◌++◌}
 use mathlib.Core.Logic.{◌⊎◌, inl, inr}
 use native.Mathlib.Omega.{arith}
-use borrow.Author.Tests.{eqb-true, eqb-false, leb-true, le-leb, eq-eqb, ne_eqb, not-false}
+use borrow.Author.Tests.{eqb-true, eqb-false, eq-eqb, ne_eqb, not-false}
 use Prim.Native.Nat.{ℕ, ◌+◌, ◌-◌, ◌*◌, ◌≤◌, ◌<◌}
-use lib.Dec.{eqb, leb}
+use lib.Dec.{eqb}
 use lib.IntN.{ℤ, pos, negsuc, ◌+ℤ◌, ◌-ℤ◌}
 use lib.Signed.{le_z, ◌≤ℤ◌}
 use Rattle.ranges.specs.Bounds.{Sized}
@@ -16,13 +16,13 @@ use Rattle.records.specs.CheckOrder.{Check, Pass, ◌then◌, first_of, AllPass}
 use Rattle.records.specs.declared.Station.{Station}
 use Rattle.records.specs.declared.Point.{Point}
 use Rattle.records.specs.declared.Row.{Row}
-use Rattle.records.specs.declared.Kind.TheVariants.{Points, TraverseValue, Distance, Lent, RecordValue, CalmAngle}
+use Rattle.records.specs.declared.Kind.TheVariants.{Points, PanelPoints, TraverseValue, Distance, Lent, RecordValue, CalmAngle}
 use Rattle.records.specs.Refusals.{refusal}
 use Rattle.records.specs.Groups.{station_at, point_count, point_at, row_count, row_at}
 use Rattle.records.specs.Rows.{row_flux}
 use Rattle.records.specs.Shapes.{Traverse, Record, count}
-use Rattle.records.specs.Limits.{inside, count_ok, latitude_ok, friction_ok, initial_ok, head_ok, distance_ok, bed_ok, station_ok, length_ok, shore_ok, tide_ok, seconds_ok, elapsed_ok, wind_ok, angle_ok, deficit_ok, point_ok, calm, calm_ok, flux_ok, cross_ok, row_ok}
-use Rattle.records.proofs.LimitLaws.{and_left, and_right, and_both, le-flag, Between, between, within, range-between, range-within}
+use Rattle.records.specs.Limits.{inside, most_points, count_ok, build_has, latitude_ok, friction_ok, initial_ok, head_ok, distance_ok, bed_ok, station_ok, length_ok, shore_ok, tide_ok, seconds_ok, elapsed_ok, wind_ok, angle_ok, deficit_ok, point_ok, calm, calm_ok, flux_ok, cross_ok, row_ok}
+use Rattle.records.proofs.LimitLaws.{and_left, and_right, and_both, le-flag, Between, between, within, range-between, range-within, counts-in, counts-pass, build-in, build-passes}
 use Rattle.records.proofs.CheckOrderLaws.{need-passed, each-passed, none_first, first-passed, first-append, first-left, first-right}
 use Rattle.march.specs.declared.State.{State}
 use Rattle.march.specs.Checks.{stations_ok, spacing_ok, traverse_checks, traverse_check, places_ok, rows_ok, lent_checks, lent_check, times_ok, points_ok, calms_ok, record_checks, record_check, checks_of}
@@ -72,7 +72,8 @@ module _ (s : Station) where
 
 pub record TraverseIn (most : ℕ) (t : Traverse) : Type 0 where
   pub from : 2 ≤ count t
-  pub to : count t ≤ most
+  pub to : count t ≤ most_points
+  pub build : count t ≤ most
   pub latitude : Between (pos 0) (pos 900) t.head.latitude
   pub friction : Between (pos 10) (pos 50) t.head.friction
   pub initial : Between (negsuc 999) (pos 1000) t.head.initial
@@ -119,32 +120,32 @@ spacing-ok most t v i h =
         at_zero (station_at t.points i).distance (rw back at v.shore)
 
 pub traverse-in : (most : ℕ) (t : Traverse) → traverse_check most t ≡ Pass → TraverseIn most t
-unfolding traverse_checks AllPass count_ok head_ok
+unfolding traverse_checks AllPass head_ok
 traverse-in most t e =
     let all = first-passed (traverse_checks most t) e in
-    let a = need-passed (count_ok most (count t)) (refusal Points (count t)) all.0 in
-    let b = need-passed (head_ok t.head) (refusal TraverseValue 0) all.1.0 in
+    let a = counts-in (count t) (need-passed (count_ok (count t)) (refusal Points (count t)) all.0) in
+    let b = need-passed (head_ok t.head) (refusal TraverseValue 0) all.1.1.0 in
     let b₁ = and_right (latitude_ok t.head.latitude) (friction_ok t.head.friction && initial_ok t.head.initial) b in
-    let ok = each-passed TraverseValue (stations_ok t.points) (count t) all.1.1.0 in
-    let apart = each-passed Distance (spacing_ok (count t) t.points) (count t) all.1.1.1.0 in
-    let two : 2 ≤ count t = leb-true 2 (count t) (and_left (leb 2 (count t)) (leb (count t) most) a) in
+    let ok = each-passed TraverseValue (stations_ok t.points) (count t) all.1.1.1.0 in
+    let apart = each-passed Distance (spacing_ok (count t) t.points) (count t) all.1.1.1.1.0 in
     record {
-      from = two;
-      to = leb-true (count t) most (and_right (leb 2 (count t)) (leb (count t) most) a);
+      from = a.0;
+      to = a.1;
+      build = build-in most (count t) (need-passed (build_has most (count t)) (refusal PanelPoints (count t)) all.1.0);
       latitude = between (pos 0) (pos 900) t.head.latitude (and_left (latitude_ok t.head.latitude) (friction_ok t.head.friction && initial_ok t.head.initial) b);
       friction = between (pos 10) (pos 50) t.head.friction (and_left (friction_ok t.head.friction) (initial_ok t.head.initial) b₁);
       initial = between (negsuc 999) (pos 1000) t.head.initial (and_right (friction_ok t.head.friction) (initial_ok t.head.initial) b₁);
       stations = λ i h. station-in (station_at t.points i) (ok i h);
       lengths = λ i h. length-in t i (apart (i + 1) h);
-      shore = shore-at t (count t - 1) (omega arith) (apart (count t - 1) (omega arith));
+      shore = shore-at t (count t - 1) (omega (arith, a.0)) (apart (count t - 1) (omega (arith, a.0)));
     }
 
 pub traverse-passes : (most : ℕ) (t : Traverse) → TraverseIn most t → traverse_check most t ≡ Pass
-unfolding traverse_checks first_of count_ok head_ok
+unfolding traverse_checks first_of head_ok
 traverse-passes most t v =
     rw (
-      le-leb 2 (count t) v.from,
-      le-leb (count t) most v.to,
+      counts-pass (count t) v.from v.to,
+      build-passes most (count t) v.build,
       within (pos 0) (pos 900) t.head.latitude v.latitude,
       within (pos 10) (pos 50) t.head.friction v.friction,
       within (negsuc 999) (pos 1000) t.head.initial v.initial,

@@ -31,7 +31,7 @@ use Rattle.march.specs.March.{March, stopped, done, segment_at, march_of, site_a
 use Rattle.march.specs.MarchBounds.{MarchIn}
 use Rattle.march.specs.Take.{Left, row_numbers, setup_numbers, no_leg, last_setup, shore_of, height_of, left_accepted, left_refused, march_given, after_march, after_checks, take_of}
 use Rattle.march.specs.Exact.{Exact, exact_setup, exact_leg, exact_height, exact_steps, exact_take, is_accepted}
-use Rattle.march.specs.Demand3.{setup_before, step_leg, step_legs, StepSound, StepsSound, CallSound, Brought, called_with, called, AllSound, Demand3}
+use Rattle.march.specs.Demand3.{setup_before, step_leg, step_legs, StepSound, StepsSound, CallSound, Brought, called_with, called, Inside, AllSound, Demand3}
 use Rattle.march.proofs.ChecksPassed.{passed}
 use Rattle.march.proofs.MarchFits.{march-in, march-segment-in, zero-setup}
 use Rattle.march.proofs.MarchLaws.{DoneBy, march-done, setup_into}
@@ -102,7 +102,7 @@ module _ (t : Traverse) (r : Record) (rows : List ℤ) (x : Exact) (legs : List 
   legs-are : legs ≡ step_legs t r (not x.started) rows
   legs-are = groups-list (step_leg t r (not x.started) rows) legs no_leg (segments t) all.size leg-step
 
-  sound-step : StepSound t r (not x.started) rows x
+  pub sound-step : StepSound t r (not x.started) rows x
   sound-step i h =
       let w = segment-at i h in
       let b = setup_before t r (not x.started) rows i in
@@ -143,12 +143,6 @@ module _ (t : Traverse) (r : Record) (rows : List ℤ) (x : Exact) (legs : List 
   placed false h = ap setup_numbers legs-are
 
 -- ---- the list
-
--- what holds between two calls: each exact v lies within the row that its segment works from, and the kept sums are the rows'
-pub record Inside (t : Traverse) (st : State) (rows : List ℤ) (x : Exact) : Type 0 where
-  pub same : x.started ≡ st.started
-  pub flux : (j : ℕ) → j < segments t → Within (row_flux (working_row t (not x.started) rows j)) (x.kept j).v
-  pub cross : (j : ℕ) → j < segments t → (working_row t (not x.started) rows j).cross ≡ (x.kept j).cross
 
 module _ (g : Given) (x : Exact) (inside : Inside g.traverse g.state g.rows x) where
   -- what is claimed of a call, and what holds after it

@@ -8,4 +8,5 @@ pub mod TakeLaws
 pub mod Demand1
 pub mod Demand3
 pub mod Lists
-pub mod Places
+pub mod Refused
+pub mod Panel

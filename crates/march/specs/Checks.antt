@@ -3,12 +3,12 @@
 use Rattle.std.specs.Prelude.{Bool, false, ◌&&◌, ◌||◌, not, List, [], ◌∷◌, ◌++◌, ℕ, ◌+◌, ◌-◌, ◌*◌, eqb, length, ℤ, pos, ◌+ℤ◌, ◌-ℤ◌, Result, Ok, Err}
 use Rattle.records.specs.declared.Closing.{Closing}
 use Rattle.records.specs.declared.Refusal.{Refusal}
-use Rattle.records.specs.declared.Kind.TheVariants.{Points, TraverseValue, Distance, Lent, RecordValue, CalmAngle}
+use Rattle.records.specs.declared.Kind.TheVariants.{Points, PanelPoints, TraverseValue, Distance, Lent, RecordValue, CalmAngle}
 use Rattle.records.specs.Refusals.{refusal}
 use Rattle.records.specs.CheckOrder.{Check, need, each, first_of}
 use Rattle.records.specs.Groups.{station_at, point_count, point_at, row_count, row_at}
 use Rattle.records.specs.Shapes.{Traverse, Record, count}
-use Rattle.records.specs.Limits.{count_ok, head_ok, station_ok, length_ok, shore_ok, row_ok, seconds_ok, tide_ok, elapsed_ok, point_ok, calm_ok}
+use Rattle.records.specs.Limits.{count_ok, build_has, head_ok, station_ok, length_ok, shore_ok, row_ok, seconds_ok, tide_ok, elapsed_ok, point_ok, calm_ok}
 use Rattle.march.specs.declared.State.{State}
 use Rattle.march.specs.Answers.{ToldOpen, opened, told_open}
 use Rattle.march.specs.Given.{Given}
@@ -25,10 +25,12 @@ spacing_ok n l i =
     (eqb i 0 || length_ok ((station_at l (i - 1)).distance -ℤ (station_at l i).distance))
     && (not (eqb (i + 1) n) || shore_ok (station_at l i).distance)
 
--- 5: "fewer than 2 or more than 65 points", where it may have 65
+-- 5: "fewer than 2 or more than 65 points". 19, of document 02: "a longer traverse on the panel only .., with the points given, after check 5"; `most`
+-- is how many points a build has, our own program's 65 or the panel's 17
 unfoldable pub traverse_checks : ℕ → Traverse → List Check
 traverse_checks most t =
-    need (count_ok most (count t)) (refusal Points (count t))
+    need (count_ok (count t)) (refusal Points (count t))
+    ∷ need (build_has most (count t)) (refusal PanelPoints (count t))
     ∷ need (head_ok t.head) (refusal TraverseValue 0)
     ∷ each TraverseValue (stations_ok t.points) (count t)
     ∷ each Distance (spacing_ok (count t) t.points) (count t)
@@ -37,7 +39,7 @@ traverse_checks most t =
 abbrev pub traverse_check : ℕ → Traverse → Check
 traverse_check most t = first_of (traverse_checks most t)
 
--- ---- opening a traverse: "checks 5 to 7 .. answers a state; it reads and writes no row"
+-- ---- opening a traverse: "checks 5 to 7 .. answers a state; it reads and writes no row", and 19 among them
 
 abbrev pub fresh_state : State
 fresh_state = record { elapsed = pos 0; started = false }

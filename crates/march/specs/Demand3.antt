@@ -4,6 +4,7 @@ use Rattle.std.specs.Prelude.{◌≡◌, Bool, false, not, List, [], ◌∷◌, 
 use Rattle.ranges.specs.declared.Range.{Range}
 use Rattle.ranges.specs.Range.{Within}
 use Rattle.records.specs.Groups.{of_row, groups, flat}
+use Rattle.records.specs.Rows.{row_flux}
 use Rattle.records.specs.Shapes.{Traverse, Record}
 use Rattle.segment.specs.declared.Leg.{Leg}
 use Rattle.segment.specs.Segment.{segment_depth, segment_flux, segment_setup, leg_of}
@@ -63,6 +64,14 @@ StepsSound t r [] first rows x left low high = StepSound t r first rows x × Las
 StepsSound t r (s ∷ steps) first rows x left low high =
     StepSound t r first rows x × StepsSound t s steps false (row_numbers (step_legs t r first rows)) (exact_step t r x) left low high
 
+-- ---- between two calls
+
+-- what holds there: each exact v lies within the row that its segment works from, and the kept sums are the rows'
+pub record Inside (t : Traverse) (st : State) (rows : List ℤ) (x : Exact) : Type 0 where
+  pub same : x.started ≡ st.started
+  pub flux : (j : ℕ) → j < segments t → Within (row_flux (working_row t (not x.started) rows j)) (x.kept j).v
+  pub cross : (j : ℕ) → j < segments t → (working_row t (not x.started) rows j).cross ≡ (x.kept j).cross
+
 -- ---- one refused record: state, rows and setup places are as they were
 
 pub record RefusedSound (g : Given) (left : Left) : Type 0 where
@@ -101,5 +110,9 @@ fresh_rows t = flat of_row (groups (fresh_row_at t) (segments t))
 
 -- "A list of records is a list of calls that take a record, with one traverse that opening accepted. The first gets the state that opening
 -- answered and fresh rows"
+abbrev pub Demand3In : ℕ → Type 0
+Demand3In most = (t : Traverse) → (open_of most t).answer ≡ opened → (calls : List Brought) → AllSound most t (open_of most t).state (fresh_rows t) exact_fresh calls
+
+-- in every build
 abbrev pub Demand3 : Type 0
-Demand3 = (most : ℕ) (t : Traverse) → (open_of most t).answer ≡ opened → (calls : List Brought) → AllSound most t (open_of most t).state (fresh_rows t) exact_fresh calls
+Demand3 = (most : ℕ) → Demand3In most

@@ -8,7 +8,7 @@ abbrev pub segments : Traverse → ℕ
 segments t = count t - 1
 
 pub record Given : Type 0 where
-  -- how many points the traverse may have
+  -- how many points the traverse may have in this build: 65, and on the harbour panel 17
   pub most : ℕ
   -- opening is given these two
   pub traverse : Traverse

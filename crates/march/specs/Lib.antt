@@ -12,3 +12,4 @@ pub mod Exact
 pub mod Demand1
 pub mod Demand3
 pub mod Lists
+pub mod Panel

@@ -17,5 +17,8 @@ accepted_seconds most t st rows (c ∷ calls) =
     cond (is_accepted (called most t st rows c).answer) c.storm.closing.seconds (pos 0)
     +ℤ accepted_seconds most t (called most t st rows c).state (called most t st rows c).rows calls
 
+abbrev pub ElapsedIsSumIn : ℕ → Type 0
+ElapsedIsSumIn most = (t : Traverse) (st : State) (rows : List ℤ) (calls : List Brought) → (state_after most t st rows calls).elapsed ≡ st.elapsed +ℤ accepted_seconds most t st rows calls
+
 abbrev pub ElapsedIsSum : Type 0
-ElapsedIsSum = (most : ℕ) (t : Traverse) (st : State) (rows : List ℤ) (calls : List Brought) → (state_after most t st rows calls).elapsed ≡ st.elapsed +ℤ accepted_seconds most t st rows calls
+ElapsedIsSum = (most : ℕ) → ElapsedIsSumIn most

@@ -67,7 +67,7 @@ left_accepted g legs = record {
 abbrev pub left_refused : Given → Refusal → Left
 left_refused g refusal = record { answer = refused (number_of refusal.kind) refusal.place; state = g.state; rows = g.rows; setup = g.setup }
 
--- ---- taking a record: checks 5 to 9 and 18, then the march over all segments
+-- ---- taking a record: checks 5, 19, 6 to 9 and 18, then the march over all segments
 
 abbrev pub march_given : Given → March
 march_given g = march_of g.traverse g.storm (not g.state.started) g.rows (segments g.traverse)

@@ -5,15 +5,19 @@ use Rattle.std.proofs.Common.{SFits}
 use Rattle.ranges.specs.declared.Range.{Range}
 use Rattle.ranges.specs.Bounds.{Sized}
 use Rattle.records.specs.Groups.{row_count, point_at}
+use Rattle.records.specs.Limits.{most_points}
 use Rattle.records.specs.Shapes.{Traverse, Record}
 use Rattle.segment.specs.Segment.{SetupIn}
 use Rattle.march.specs.declared.State.{State}
 use Rattle.march.specs.Given.{segments}
 use Rattle.march.specs.MarchBounds.{SettingIn}
 
--- how many segments there can be: the lesser of what a traverse may have and of the rows
+abbrev pub lesser : ℕ → ℕ → ℕ
+lesser a b = a - (a - b)
+
+-- how many segments there can be: as many as the rows, but no more than a traverse may have, in this build and at all
 abbrev pub most_segments : ℕ → List ℤ → ℕ
-most_segments most rows = (most - 1) - ((most - 1) - row_count rows)
+most_segments most rows = lesser (most_points - 1) (lesser (most - 1) (row_count rows))
 
 -- n is the place of the shore point
 pub record ShoreAt (t : Traverse) (r : Record) (n : ℕ) : Type 0 where

@@ -1,8 +1,8 @@
-// Checks 5 to 9 of document 01 and 18 of document 02, in their order: the first that fails decides, and within it the first bad point or row.
+// Checks 5 to 9 of document 01, 18 and 19 of document 02, in their order: the first that fails decides, and within it the first bad point or row.
 // All that is looked at is the caller's and may hold anything; nothing overflows on it and nothing past a slice is read.
 ghost use Rattle.std.specs.Prelude.{◌≡◌, ◌&&◌, ◌||◌, true, ℕ, eqb, ◌-◌, ◌*◌, ◌≤◌, ◌<◌, length, pos, ◌-ℤ◌};
 ghost use Rattle.ranges.specs.Bounds.{Sized};
-ghost use Rattle.records.specs.Limits.{length_ok, most_points};
+ghost use Rattle.records.specs.Limits.{length_ok};
 ghost use Rattle.records.specs.Shapes.{traverse_of, storm_of};
 ghost use Rattle.records.specs.CheckOrder.{first_of};
 ghost use Rattle.march.specs.Checks.{stations_ok, spacing_ok, traverse_check, open_of, opened_by, places_ok, lent_check, times_ok, record_check, checks_of};
@@ -10,8 +10,8 @@ ghost use Rattle.march.specs.Checks.{stations_ok, spacing_ok, traverse_check, op
 use super::State;
 use records::groups::{count, group_at};
 use records::limits::{
-    ELAPSED, LENGTH, POINTS_MOST, SHORE, TIDE, calm_ok, count_ok, head_ok, inside, point_ok,
-    row_ok, seconds_ok, station_ok,
+    ELAPSED, LENGTH, SHORE, TIDE, build_has, calm_ok, count_ok, head_ok, inside, point_ok, row_ok,
+    seconds_ok, station_ok,
 };
 use records::{Closing, Kind, Point, Refusal, Row, Station, StormRecord, Traverse, each, need};
 
@@ -35,25 +35,28 @@ pub fn spacing_ok(points: &[i64], n: usize, i: usize) -> bool
     length_ok(i, before, here) && (i + 1 != n || inside(here, SHORE))
 }
 
-// Checks 5 to 7, where a traverse may have `most` points.
+// Checks 5, 19, 6 and 7, where a traverse may have `most` points in this build. It belongs into taking a record: called from there, it makes the record of a
+// long traverse slower.
+#[inline(always)]
 #[tactic(auto, unfolding(crate::specs::Checks::traverse_checks, records::specs::CheckOrder::first_of))]
 pub fn check_traverse(most: usize, traverse: Traverse) -> Result<(), Refusal>
     ensures { result ≡ traverse_check most (traverse_of traverse.entry) }
 {
     let points = traverse.points;
     let n = count::<Station>(points);
-    need(count_ok(most, n), Refusal::new(Kind::Points, n))?;
+    need(count_ok(n), Refusal::new(Kind::Points, n))?;
+    need(build_has(most, n), Refusal::new(Kind::PanelPoints, n))?;
     need(head_ok(traverse.head), Refusal::new(Kind::TraverseValue, 0))?;
     each(Kind::TraverseValue, n, |i| station_ok(group_at(points, i)))?;
     each(Kind::Distance, n, |i| spacing_ok(points, n, i))
 }
 
-// Opening a traverse: no row is read or written. Open to callers: every argument may be anything whatever.
+// Opening a traverse, which may have `most` points: no row is read or written. Open to callers: every argument may be anything whatever.
 #[tactic(auto, unfolding(crate::specs::Checks::open_of))]
-pub fn open_traverse(traverse: Traverse) -> Result<State, Refusal>
-    ensures { opened_by result ≡ open_of most_points (traverse_of traverse.entry) }
+pub fn open_traverse(most: usize, traverse: Traverse) -> Result<State, Refusal>
+    ensures { opened_by result ≡ open_of most (traverse_of traverse.entry) }
 {
-    check_traverse(POINTS_MOST, traverse)?;
+    check_traverse(most, traverse)?;
     Ok(State::fresh())
 }
 
@@ -115,7 +118,7 @@ pub fn check_record(n: usize, storm: StormRecord, state: State) -> Result<(), Re
 
 // ---- all of them
 
-// Checks 5 to 9 and 18, as taking a record makes them, with so many setup places.
+// All of them, as taking a record makes them, with so many setup places.
 pub fn check_all(
     most: usize,
     traverse: Traverse,

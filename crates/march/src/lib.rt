@@ -12,7 +12,7 @@ mod march;
 mod take;
 
 pub use checks::open_traverse;
-pub use take::take_record;
+pub use take::{FEW_SEGMENTS, take_record, take_with};
 
 // What is kept between two records beside the rows: the elapsed seconds, and whether a first record was accepted.
 #[derive(Clone, Copy, Debug, PartialEq, Eq)]

@@ -1,6 +1,5 @@
 // Taking a record: checks, march, and only then the commit to rows and setup places.
 ghost use Rattle.std.specs.Prelude.{◌≡◌, true, ◌*◌, ◌≤◌, ◌+ℤ◌, [], cond, eqb, length};
-ghost use Rattle.records.specs.Limits.{most_points};
 ghost use Rattle.records.specs.Shapes.{traverse_of, storm_of};
 ghost use Rattle.march.specs.Given.{given};
 ghost use Rattle.march.specs.Checks.{places_ok};
@@ -12,7 +11,7 @@ use super::checks::check_all;
 use super::march::march;
 use ranges::Range;
 use records::groups::{count, fill, group_at};
-use records::limits::{POINTS_MOST, SEGMENTS_MOST};
+use records::limits::SEGMENTS_MOST;
 use records::{Point, Refusal, Row, StormRecord, Traverse};
 use segment::Leg;
 
@@ -53,7 +52,7 @@ pub fn accepted(state: &mut State, seconds: i64, base: i64, setup: Range) -> Ran
     }
 }
 
-// Takes a record where a traverse may have `most` points, with scratch for as many segments as there can be.
+// Takes a record where a traverse may have `most` points in this build, with scratch for as many segments as there can be.
 pub fn take_in(
     most: usize,
     traverse: Traverse,
@@ -77,42 +76,44 @@ pub fn take_in(
 }
 
 // Takes a record with scratch for N segments.
-fn take_with<const N: usize>(
+pub fn take_with<const N: usize>(
+    most: usize,
     traverse: Traverse,
     storm: StormRecord,
     state: &mut State,
     rows: &mut [i64],
     setup: &mut [i64],
 ) -> Result<Range, Refusal>
-    requires { (most_segments most_points rows.old ≤ N) × (N ≤ 64) }
-    ensures { left result state.new rows.new setup.new ≡ take_of (given most_points (traverse_of traverse.entry) (storm_of storm.entry) state.old rows.old setup.old) }
+    requires { (most_segments most rows.old ≤ N) × (N ≤ 64) }
+    ensures { left result state.new rows.new setup.new ≡ take_of (given most (traverse_of traverse.entry) (storm_of storm.entry) state.old rows.old setup.old) }
 {
     let none = Leg {
         row: Row::fresh(),
         setup: Range { low: 0, high: 0 },
     };
     let mut legs = [none; N];
-    take_in(POINTS_MOST, traverse, storm, state, rows, setup, &mut legs)
+    take_in(most, traverse, storm, state, rows, setup, &mut legs)
 }
 
 // Few segments get little scratch: to clear all of it would take longer than their march.
-const FEW_SEGMENTS: usize = 8;
+pub const FEW_SEGMENTS: usize = 8;
 
-// Takes a record of a storm over a traverse: no setup places for Level B, two for each segment for Level C. It answers the shore height
-// range, 0.0001 ft, and the state then has the elapsed seconds; a refusal leaves the state and all that was lent as it was. Open to callers:
-// every argument may be anything whatever.
+// Takes a record of a storm over a traverse, which may have `most` points: no setup places for Level B, two for each segment for Level C. It answers
+// the shore height range, 0.0001 ft, and the state then has the elapsed seconds; a refusal leaves the state and all that was lent as it was. Open to
+// callers: every argument may be anything whatever.
 pub fn take_record(
+    most: usize,
     traverse: Traverse,
     storm: StormRecord,
     state: &mut State,
     rows: &mut [i64],
     setup: &mut [i64],
 ) -> Result<Range, Refusal>
-    ensures { left result state.new rows.new setup.new ≡ take_of (given most_points (traverse_of traverse.entry) (storm_of storm.entry) state.old rows.old setup.old) }
+    ensures { left result state.new rows.new setup.new ≡ take_of (given most (traverse_of traverse.entry) (storm_of storm.entry) state.old rows.old setup.old) }
 {
     if count::<Row>(rows) <= FEW_SEGMENTS {
-        take_with::<FEW_SEGMENTS>(traverse, storm, state, rows, setup)
+        take_with::<FEW_SEGMENTS>(most, traverse, storm, state, rows, setup)
     } else {
-        take_with::<SEGMENTS_MOST>(traverse, storm, state, rows, setup)
+        take_with::<SEGMENTS_MOST>(most, traverse, storm, state, rows, setup)
     }
 }

@@ -12,7 +12,7 @@ use lib.IntN.{ℤ}
 use borrow.Author.Tests.{ltb-true, leb-false}
 use Rattle.records.specs.declared.Kind.TheVariants as kind
 use Rattle.records.specs.Refusals.{refusal}
-use Rattle.records.specs.Limits.{count_ok, most_points}
+use Rattle.records.specs.Limits.{count_ok}
 use Rattle.reader.specs.Text.{more, byte, value_at, past_at}
 use Rattle.reader.specs.Lines.{Outcome, read, refused, found, Leaves, leaves, laid, repeated, kept_with, same_with, Line, full, bad, closed_at, values_at, lines_read, after, lines_at, spells, names_at, holds}
 use Rattle.reader.specs.Storm.{storm_names, storm_start, record_of, record_lines, Further, one, none, next_at, kept_at, next_of, too_few, next_left, start_step, answered, holds_record, Seen, needs-more, seen, record_step, record_step_left}
@@ -23,7 +23,7 @@ use Rattle.reader.specs.declared.traverse.TraverseRead.{TraverseRead}
 use Rattle.reader.specs.declared.traverse.Progress.{Progress}
 use Rattle.reader.specs.declared.traverse.Progress.TheVariants as progress
 use Rattle.reader.proofs.Laws.{closed-present}
-use Rattle.reader.proofs.StormLaws.{counts-in}
+use Rattle.records.proofs.LimitLaws.{counts-in}
 use Rattle.reader.proofs.TraverseLaws.{PastLines, Past, lines-on, line_on, step-once}
 use Rattle.reader.specs.declared.Cursor.{Cursor}
 use Rattle.records.specs.declared.Refusal.{Refusal}
@@ -223,15 +223,15 @@ Read-on from to (refused q) = Unit {0}
 
 pub next-on : (s : List ℕ) (n at line : ℕ) → at ≤ length s → Read-on (at + 1) (length s) (next_at s n at line)
 unfolding next_at
-next-on s n at line h = go (count_ok most_points n) refl (ltb at (length s)) (record_lines s n at line).answer (lines-on s 5 2 n 0 at line [] (omega arith)) (lines_end s 5 2 n 0 at line [] h)
+next-on s n at line h = go (count_ok n) refl (ltb at (length s)) (record_lines s n at line).answer (lines-on s 5 2 n 0 at line [] (omega arith)) (lines_end s 5 2 n 0 at line [] h)
   where
     rest : (b : Bool) → Read-on (at + 1) (length s) (cond b (read none at line) (refused (refusal kind.Ended line)))
     rest true = tt
     rest false = tt
 
-    go : (b : Bool) → count_ok most_points n ≡ b → (c : Bool) (r : Result Cursor Refusal) → PastLines (at + n) r → Stays (length s) r
+    go : (b : Bool) → count_ok n ≡ b → (c : Bool) (r : Result Cursor Refusal) → PastLines (at + n) r → Stays (length s) r
         → Read-on (at + 1) (length s) (cond b (cond c (found r (one (record_of (record_lines s n at line).kept))) (cond (ltb 1 line) (read none at line) (refused (refusal kind.Ended line)))) (refused (refusal kind.Points n)))
-    go true e true (Ok d) p q = let k = counts-in most_points n e in (omega arith, q)
+    go true e true (Ok d) p q = let k = counts-in n e in (omega arith, q)
     go true e true (Err t) p q = tt
     go true e false r p q = rest (ltb 1 line)
     go false e c r p q = tt

@@ -12,14 +12,14 @@ use lib.IntN.{ℤ, pos}
 use borrow.Author.Tests.{ltb-false}
 use Rattle.records.specs.declared.Kind.TheVariants.{Ended, Points, Lent}
 use Rattle.records.specs.Refusals.{refusal}
-use Rattle.records.specs.Limits.{count_ok, most_points}
+use Rattle.records.specs.Limits.{count_ok}
 use Rattle.records.proofs.GroupLaws.{wholes-times}
 use Rattle.reader.specs.Lines.{Outcome, read, refused, found, Leaves, leaves, laid, LinesRead}
 use Rattle.reader.specs.Storm.{record_of, record_size, record_in, record_lines, Further, one, none, next_at, kept_at, next_of, too_few, next_left, holds_record, needs-more, seen, answered, record_step, record_step_left}
 use Rattle.reader.specs.Lent.{Spared, NextSpares, HasRecord, NextHasRecord, seen_answer, StepAnswers, StepSpares, StepHasRecord}
 use Rattle.reader.specs.declared.Cursor.{Cursor}
 use Rattle.reader.proofs.Laws.{number_place}
-use Rattle.reader.proofs.StormLaws.{counts-in}
+use Rattle.records.proofs.LimitLaws.{counts-in}
 use Rattle.reader.proofs.KeptLaws.{LinesSize, AnswerSize, lines-size}
 use Rattle.records.specs.declared.Refusal.{Refusal}
 use Rattle.reader.specs.declared.storm.Halt.{Halt}
@@ -47,9 +47,9 @@ module _ (kept lent : List ℤ) where
 -- ---- the numbers that are kept of a record
 
 module _ (s : List ℕ) (n at line : ℕ) where
-  record-size : count_ok most_points n ≡ true → LinesSize (record_size n) (record_lines s n at line)
+  record-size : count_ok n ≡ true → LinesSize (record_size n) (record_lines s n at line)
   record-size e =
-      let k = counts-in most_points n e in
+      let k = counts-in n e in
       subst (λ (m : ℕ). LinesSize m (record_lines s n at line)) (places n (omega arith)) (lines-size 5 2 s n 0 n at line [] (omega arith) (omega arith) refl)
     where
       places : (n : ℕ) → 0 < n → number_place 5 2 n 0 ≡ record_size n
@@ -62,18 +62,18 @@ module _ (s : List ℕ) (n at line : ℕ) where
 
   kept-few : length (kept_at s n at line) ≤ record_size n
   unfolding kept_at
-  kept-few = go (count_ok most_points n) refl (ltb at (length s))
+  kept-few = go (count_ok n) refl (ltb at (length s))
     where
-      go : (b : Bool) → count_ok most_points n ≡ b → (c : Bool) → length (cond b (cond c (record_lines s n at line).kept []) []) ≤ record_size n
+      go : (b : Bool) → count_ok n ≡ b → (c : Bool) → length (cond b (cond c (record_lines s n at line).kept []) []) ≤ record_size n
       go true e true = some (record_lines s n at line).answer (record_lines s n at line).kept (record-size e)
       go true e false = omega arith
       go false e c = omega arith
 
   kept-fits : (size : ℕ) → too_few n size ≡ false → length (kept_at s n at line) ≤ size
   unfolding too_few kept_at
-  kept-fits size e = go (count_ok most_points n) refl e (ltb at (length s))
+  kept-fits size e = go (count_ok n) refl e (ltb at (length s))
     where
-      go : (b : Bool) → count_ok most_points n ≡ b → (b && ltb size (record_size n)) ≡ false → (c : Bool) → length (cond b (cond c (record_lines s n at line).kept []) []) ≤ size
+      go : (b : Bool) → count_ok n ≡ b → (b && ltb size (record_size n)) ≡ false → (c : Bool) → length (cond b (cond c (record_lines s n at line).kept []) []) ≤ size
       go true e f true = omega (arith, ltb-false size (record_size n) f, some (record_lines s n at line).answer (record_lines s n at line).kept (record-size e))
       go true e f false = omega arith
       go false e f c = omega arith
@@ -123,7 +123,7 @@ module _ (n at line : ℕ) (lent : List ℤ) (c : Cursor) where
       go false e = absurd cc
   passed false t b a l e = absurd cc
 
-has-record : (n : ℕ) (l : List ℤ) → count_ok most_points n ≡ true → record_size n ≤ length l → HasRecord n l
+has-record : (n : ℕ) (l : List ℤ) → count_ok n ≡ true → record_size n ≤ length l → HasRecord n l
 has-record n l k h =
     let e : length (take (3 * n) (drop 2 l)) ≡ 3 * n = length-take-le (3 * n) (drop 2 l) (simp length-drop (omega arith)) in
     record { counted = k; room = h; numbers = e; points = rw e (wholes-times 3 n (omega arith)) }
@@ -132,7 +132,7 @@ pub next-has-record : NextHasRecord
 unfolding next_left too_few next_at kept_at
 next-has-record s n at line lent c e =
     let x = record_lines s n at line in
-    let p = passed n at line lent c (count_ok most_points n) (ltb (length lent) (record_size n)) (ltb at (length s)) x.answer x.kept e in
+    let p = passed n at line lent c (count_ok n) (ltb (length lent) (record_size n)) (ltb at (length s)) x.answer x.kept e in
     let z : length x.kept ≡ record_size n = size x.answer x.kept p.answer (record-size s n at line p.counted) in
     let f : record_size n ≤ length lent = ltb-false _ _ p.enough in
     let m : length (laid x.kept lent) ≡ length lent = laid-size x.kept lent (omega arith) in (

@@ -2,7 +2,6 @@
 pub mod Digits
 pub mod Laws
 pub mod Names
-pub mod StormLaws
 pub mod TraverseLaws
 pub mod WindowLaws
 pub mod Ends

@@ -12,7 +12,7 @@ use borrow.Author.Tests.{ltb-true, ltb-false, leb-true}
 use Rattle.records.specs.declared.Kind.TheVariants as kind
 use Rattle.records.specs.Refusals.{refusal}
 use Rattle.records.specs.Groups.{station_count}
-use Rattle.records.specs.Limits.{count_ok, most_points}
+use Rattle.records.specs.Limits.{count_ok}
 use Rattle.reader.specs.Text.{byte}
 use Rattle.reader.specs.Lines.{Outcome, read, refused, found, Leaves, leaves, LinesRead, names_at, holds}
 use Rattle.reader.specs.Storm.{storm_names, storm_start, record_of, record_lines, Further, one, none, next_at, Storm, with, storm_by, records_by, storm_rest, start_step, holds_record, seen, needs-more, record_step}
@@ -26,7 +26,7 @@ use Rattle.reader.specs.declared.traverse.Progress.TheVariants as progress
 use Rattle.reader.specs.declared.Cursor.{Cursor}
 use Rattle.records.specs.declared.Refusal.{Refusal}
 use Rattle.reader.proofs.Laws.{never}
-use Rattle.reader.proofs.StormLaws.{counts-in}
+use Rattle.records.proofs.LimitLaws.{counts-in}
 use Rattle.reader.proofs.TraverseLaws.{Past, line_on, rest_end, rest-line}
 use Rattle.reader.proofs.WindowLaws.{Window, shows-far, moved_lines, found-moved, lines-local, names-local, names_same}
 use Rattle.reader.proofs.Ends.{Asks, traverse-asks, Read-on, next-on}
@@ -51,7 +51,7 @@ module _ (s w : List ℕ) (o : ℕ) (last : Bool) (h : Shows s w o last) where
   -- its next record
   pub next-window : (n at line : ℕ) → holds_record (length w) last n at ≡ true → next_at s n (o + at) line ≡ moved o (next_at w n at line)
   unfolding next_at holds_record
-  next-window n at line e = go (count_ok most_points n) refl e
+  next-window n at line e = go (count_ok n) refl e
     where
       rest : (b : Bool) → cond b (read none (o + at) line) (refused (refusal kind.Ended line)) ≡ moved o (cond b (read none at line) (refused (refusal kind.Ended line)))
       rest true = refl
@@ -68,10 +68,10 @@ module _ (s w : List ℕ) (o : ℕ) (last : Bool) (h : Shows s w o last) where
           ≡ moved o (cond (ltb at (length w)) (found (record_lines w n at line).answer (one (record_of (record_lines w n at line).kept))) (cond (ltb 1 line) (read none at line) (refused (refusal kind.Ended line))))
       in_all k v = rw (v.ends at (omega arith)) (by (ltb at (length w)) (record_lines s n (o + at) line) (record_lines w n at line) (lines-local v 5 2 n 0 at line [] (omega arith) (omega arith)))
 
-      go : (b : Bool) → count_ok most_points n ≡ b → cond b (holds (length w) last at (n * 55)) true ≡ true
+      go : (b : Bool) → count_ok n ≡ b → cond b (holds (length w) last at (n * 55)) true ≡ true
           → cond b (cond (ltb (o + at) (length s)) (found (record_lines s n (o + at) line).answer (one (record_of (record_lines s n (o + at) line).kept))) (cond (ltb 1 line) (read none (o + at) line) (refused (refusal kind.Ended line)))) (refused (refusal kind.Points n))
           ≡ moved o (cond b (cond (ltb at (length w)) (found (record_lines w n at line).answer (one (record_of (record_lines w n at line).kept))) (cond (ltb 1 line) (read none at line) (refused (refusal kind.Ended line)))) (refused (refusal kind.Points n)))
-      go true c f = in_all (counts-in most_points n c).0 (far last at (n * 55) h f)
+      go true c f = in_all (counts-in n c).0 (far last at (n * 55) h f)
       go false c f = refl
 
 -- ---- a traverse text
@@ -106,7 +106,7 @@ end-window s o h at line = go h.known
     go Names = refl
     go Values = refl
     go (Columns d) = refl
-    go (Points t) = unfold counted_by in counted t (eqb t.count 0) (count_ok most_points t.count) (ltb (station_count h.points) t.count)
+    go (Points t) = unfold counted_by in counted t (eqb t.count 0) (count_ok t.count) (ltb (station_count h.points) t.count)
 
 module _ (s w : List ℕ) (o : ℕ) (last : Bool) (sh : Shows s w o last) where
   -- at the end of the last window, and of the text

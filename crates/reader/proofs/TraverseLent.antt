@@ -28,7 +28,7 @@ use Rattle.reader.specs.declared.traverse.Known.TheVariants.{Names, Values, Colu
 use Rattle.reader.specs.declared.traverse.TraverseRead.{TraverseRead}
 use Rattle.reader.specs.declared.traverse.Progress.{Progress}
 use Rattle.reader.specs.declared.traverse.Progress.TheVariants as progress
-use Rattle.reader.proofs.StormLaws.{counts-in}
+use Rattle.records.proofs.LimitLaws.{counts-in}
 use Rattle.reader.specs.declared.Cursor.{Cursor}
 
 -- ---- as many numbers as were lent
@@ -83,14 +83,14 @@ traverse-size w last h at line = step-size w last (length w) h at line
 -- ---- a traverse that was read has a count that is allowed, and a place for each point
 
 abbrev Fine : Outcome TraverseRead → List ℤ → Type 0
-Fine (read t a l) points = (count_ok most_points t.count ≡ true) × (t.count ≤ station_count points)
+Fine (read t a l) points = (count_ok t.count ≡ true) × (t.count ≤ station_count points)
 Fine (refused q) points = Unit {0}
 
 end-fine : (h : Held) (at line : ℕ) → Fine (end_of h at line).answer h.points
 unfolding end_at
 end-fine h at line = go h.known
   where
-    counted : (t : TraverseRead) (a b c : Bool) → count_ok most_points t.count ≡ b → ltb (station_count h.points) t.count ≡ c
+    counted : (t : TraverseRead) (a b c : Bool) → count_ok t.count ≡ b → ltb (station_count h.points) t.count ≡ c
         → Fine (cond a (refused (refusal kind.Ended line)) (cond b (cond c (refused (refusal kind.Lent 0)) (read t at line)) (refused (refusal kind.Points t.count)))) h.points
     counted t true b c e f = tt
     counted t false true true e f = tt
@@ -101,10 +101,10 @@ end-fine h at line = go h.known
     go Names = tt
     go Values = tt
     go (Columns d) = tt
-    go (Points t) = unfold counted_by in counted t (eqb t.count 0) (count_ok most_points t.count) (ltb (station_count h.points) t.count) refl refl
+    go (Points t) = unfold counted_by in counted t (eqb t.count 0) (count_ok t.count) (ltb (station_count h.points) t.count) refl refl
 
 abbrev FineStep : Result Progress Refusal → List ℤ → Type 0
-FineStep (Ok (progress.Read t)) points = (count_ok most_points t.count ≡ true) × (t.count ≤ station_count points)
+FineStep (Ok (progress.Read t)) points = (count_ok t.count ≡ true) × (t.count ≤ station_count points)
 FineStep (Ok (progress.More c k)) points = Unit {0}
 FineStep (Err q) points = Unit {0}
 
@@ -133,7 +133,7 @@ module _ (w : List ℕ) (last : Bool) where
       go true false r ih = fine_end (end_of h at line).answer h.points (end-fine h at line)
       go false c r ih = tt
 
-has-traverse : (n : ℕ) (l : List ℤ) → count_ok most_points n ≡ true → n ≤ station_count l → HasTraverse n l
+has-traverse : (n : ℕ) (l : List ℤ) → count_ok n ≡ true → n ≤ station_count l → HasTraverse n l
 has-traverse n l k h =
     let e : length (take (2 * n) l) ≡ 2 * n = length-take-le (2 * n) l (omega (arith, wholes-fit 2 (length l))) in
     record { counted = k; room = h; numbers = e; points = rw e (wholes-times 2 n (omega arith)) }
@@ -239,12 +239,12 @@ unfolding end_at
 end-alike k l m at line a = go k a
   where
     -- room for the most points is as good as more, and the points count that were kept
-    counted : (t : TraverseRead) → Alike (Points t) l m → (a b : Bool) → count_ok most_points t.count ≡ b
+    counted : (t : TraverseRead) → Alike (Points t) l m → (a b : Bool) → count_ok t.count ≡ b
         → Agree (leaves (cond a (refused (refusal kind.Ended line)) (cond b (cond (ltb (station_count l) t.count) (refused (refusal kind.Lent 0)) (read t at line)) (refused (refusal kind.Points t.count)))) l)
         (leaves (cond a (refused (refusal kind.Ended line)) (cond b (cond (ltb (station_count m) t.count) (refused (refusal kind.Lent 0)) (read t at line)) (refused (refusal kind.Points t.count)))) m)
     counted t z true b e = agree-none _ l m
     counted t z false true e =
-        let c = counts-in most_points t.count e in
+        let c = counts-in t.count e in
         rw (le-ltb (station_count l) t.count (omega (arith, z.room)), le-ltb (station_count m) t.count (omega (arith, z.room')))
         (record { answer = refl; traverse = rw (z.same t.count (omega arith) (omega arith)) })
     counted t z false false e = agree-none _ l m
@@ -253,7 +253,7 @@ end-alike k l m at line a = go k a
     go Names z = agree-none _ l m
     go Values z = agree-none _ l m
     go (Columns d) z = agree-none _ l m
-    go (Points t) z = unfold counted_by in counted t z (eqb t.count 0) (count_ok most_points t.count) refl
+    go (Points t) z = unfold counted_by in counted t z (eqb t.count 0) (count_ok t.count) refl
 
 module _ (s : List ℕ) where
   rest-alike : (f : ℕ) (k : Known) (l m : List ℤ) (at line : ℕ) → Alike k l m → Agree (rest_by s f (held k l) at line) (rest_by s f (held k m) at line)
@@ -291,7 +291,7 @@ module _ (s : List ℕ) where
         none n e = rw e
 
     read_is : (o : Outcome TraverseRead) (l : List ℤ) (t : Traverse) (at line : ℕ) → Fine o l → traverse_by o l ≡ read t at line
-        → (traverse_read o ≡ Ok (record { head = t.head; count = count t })) × (take (2 * count t) l ≡ t.points) × (count_ok most_points (count t) ≡ true)
+        → (traverse_read o ≡ Ok (record { head = t.head; count = count t })) × (take (2 * count t) l ≡ t.points) × (count_ok (count t) ≡ true)
     unfolding traverse_read
     read_is (read k a b) l t at line f e =
         let u : traverse k.head (take (2 * k.count) l) ≡ t = cc in

@@ -9,7 +9,7 @@ use lib.ListN.{length, length-take, length-drop}
 use lib.Dec.{leb}
 use lib.IntN.{ℤ}
 use borrow.Author.Tests.{leb-true, leb-false, le-leb}
-use Rattle.records.specs.Limits.{count_ok, most_points}
+use Rattle.records.specs.Limits.{count_ok}
 use Rattle.records.specs.Shapes.{Record}
 use Rattle.reader.specs.Lines.{Outcome, read, refused, Leaves, holds}
 use Rattle.reader.specs.Storm.{storm_start, Further, one, none, next_at, Stop, ended, stopped, paused, unread, Storm, with, storm_by, storm_rest, storm_from, storm_of, answered, start_step, holds_record, record_step}
@@ -170,7 +170,7 @@ module _ (s : List ℕ) (n : ℕ) where
 
   shown-holds : (c : Cut) (at : ℕ) → at ≤ length s → shown_by (n * 55) c ≡ true → holds_record (length (window_of s c at)) (last_of s c at) n (at - from_of c at) ≡ true
   unfolding holds_record
-  shown-holds c at h b = go (count_ok most_points n)
+  shown-holds c at h b = go (count_ok n)
     where
       go : (x : Bool) → cond x (holds (length (window_of s c at)) (last_of s c at) (at - from_of c at) (n * 55)) true ≡ true
       go true = cut_holds s c at h (n * 55) b

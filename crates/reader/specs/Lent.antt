@@ -25,7 +25,7 @@ NextSpares = (s : List ℕ) (n at line : ℕ) (lent : List ℤ) → Spared n len
 
 -- a record of n points stands in numbers: there are that many points, and as many numbers as they take
 pub record HasRecord (n : ℕ) (l : List ℤ) : Type 0 where
-  pub counted : count_ok most_points n ≡ true
+  pub counted : count_ok n ≡ true
   pub room : record_size n ≤ length l
   pub numbers : length (record_in n l).points ≡ 3 * n
   pub points : point_count (record_in n l).points ≡ n
@@ -59,7 +59,7 @@ StepHasRecord =
 
 -- a traverse of so many points stands in numbers
 pub record HasTraverse (n : ℕ) (l : List ℤ) : Type 0 where
-  pub counted : count_ok most_points n ≡ true
+  pub counted : count_ok n ≡ true
   pub room : n ≤ station_count l
   pub numbers : length (take (2 * n) l) ≡ 2 * n
   pub points : station_count (take (2 * n) l) ≡ n
@@ -80,7 +80,7 @@ TraverseIsRead =
     (s : List ℕ) (lent : List ℤ) → most_points ≤ station_count lent → (t : Traverse) (at line : ℕ) → traverse_of s ≡ read t at line
     → ((traverse_left s lent).answer ≡ Ok (record { head = t.head; count = count t }))
     × (take (2 * count t) (traverse_left s lent).numbers ≡ t.points)
-    × (count_ok most_points (count t) ≡ true)
+    × (count_ok (count t) ≡ true)
 
 abbrev pub TraverseIsRefused : Type 0
 TraverseIsRefused =

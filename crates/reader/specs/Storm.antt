@@ -5,7 +5,7 @@ use Rattle.records.specs.declared.Kind.TheVariants.{Ended, Points, Lent}
 use Rattle.records.specs.declared.Refusal.{Refusal}
 use Rattle.records.specs.Refusals.{refusal}
 use Rattle.records.specs.Groups.{at as number_at}
-use Rattle.records.specs.Limits.{count_ok, most_points}
+use Rattle.records.specs.Limits.{count_ok}
 use Rattle.records.specs.Shapes.{Record, storm}
 use Rattle.reader.specs.Lines.{Outcome, read, refused, found, Leaves, leaves, laid, LinesRead, lines_at, names_at, holds}
 use Rattle.reader.specs.declared.Cursor.{Cursor}
@@ -47,7 +47,7 @@ record_lines s n at line = lines_at s 5 2 n 0 at line []
 -- names, before it
 unfoldable pub next_at : List ℕ → ℕ → ℕ → ℕ → Outcome Further
 next_at s n at line =
-    cond (count_ok most_points n)
+    cond (count_ok n)
     (cond (ltb at (length s))
     (found (record_lines s n at line).answer (one (record_of (record_lines s n at line).kept)))
     (cond (ltb 1 line) (read none at line) (refused (refusal Ended line))))
@@ -55,7 +55,7 @@ next_at s n at line =
 
 -- the numbers that are kept of it, whatever is found
 unfoldable pub kept_at : List ℕ → ℕ → ℕ → ℕ → List ℤ
-kept_at s n at line = cond (count_ok most_points n) (cond (ltb at (length s)) (record_lines s n at line).kept []) []
+kept_at s n at line = cond (count_ok n) (cond (ltb at (length s)) (record_lines s n at line).kept []) []
 
 -- the answer for each case: the cursor past the record, the end of the text, or the refusal
 unfoldable pub next_of : Outcome Further → Result (Option Cursor) Refusal
@@ -65,7 +65,7 @@ next_of (refused r) = Err r
 
 -- whether a record of n points has no place in so many lent numbers; a count that is refused needs none
 unfoldable pub too_few : ℕ → ℕ → Bool
-too_few n size = count_ok most_points n && ltb size (record_size n)
+too_few n size = count_ok n && ltb size (record_size n)
 
 -- what the call leaves: the numbers as lent where they are too few, otherwise what was kept laid into them
 unfoldable pub next_left : List ℕ → ℕ → ℕ → ℕ → List ℤ → Leaves (Result (Option Cursor) Refusal)
@@ -133,7 +133,7 @@ longest_record = 3575
 
 -- whether a window of so many bytes is enough for the next record: 55 bytes for each line, eleven for each value
 unfoldable pub holds_record : ℕ → Bool → ℕ → ℕ → Bool
-holds_record size last n at = cond (count_ok most_points n) (holds size last at (n * 55)) true
+holds_record size last n at = cond (count_ok n) (holds size last at (n * 55)) true
 
 -- what a window shows: that more of the text is needed, or what the text has next
 pub data Seen : Type 0 where

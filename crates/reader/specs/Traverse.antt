@@ -6,7 +6,7 @@ use Rattle.records.specs.declared.Kind.TheVariants as kind
 use Rattle.records.specs.declared.Refusal.{Refusal}
 use Rattle.records.specs.Refusals.{refusal}
 use Rattle.records.specs.Groups.{at as number_at, station_at, station_count, put_station}
-use Rattle.records.specs.Limits.{count_ok, most_points}
+use Rattle.records.specs.Limits.{count_ok}
 use Rattle.records.specs.Shapes.{Traverse, traverse}
 use Rattle.reader.specs.Text.{more}
 use Rattle.reader.specs.Lines.{Outcome, read, refused, found, Leaves, leaves, LinesRead, lines_at, names_at, holds}
@@ -84,7 +84,7 @@ unfoldable pub counted_by : ℕ → TraverseRead → ℕ → ℕ → Outcome Tra
 counted_by room t at line =
     cond (eqb t.count 0)
     (refused (refusal kind.Ended line))
-    (cond (count_ok most_points t.count)
+    (cond (count_ok t.count)
     (cond (ltb room t.count) (refused (refusal kind.Lent 0)) (read t at line))
     (refused (refusal kind.Points t.count)))
 

@@ -9,7 +9,7 @@ ghost use Rattle.reader.specs.declared.storm.Halt.TheVariants.{Refused};
 
 use crate::{Cursor, Window};
 use records::groups::Group;
-use records::limits::{POINTS_MOST, count_ok};
+use records::limits::count_ok;
 use records::{Closing, Kind, Point, Refusal, need};
 
 // How many values a line of a record has.
@@ -48,7 +48,7 @@ impl Cursor {
     ) -> Result<Option<Cursor>, Refusal>
         ensures { leaves result numbers.new ≡ next_left s.now n self.at self.line numbers.old }
     {
-        need(count_ok(POINTS_MOST, n), Refusal::new(Kind::Points, n))?;
+        need(count_ok(n), Refusal::new(Kind::Points, n))?;
         need(
             Closing::NUMBERS + Point::NUMBERS * n <= numbers.len(),
             Refusal::new(Kind::Lent, 0),
@@ -77,7 +77,7 @@ impl Window<'_> {
     fn holds_record(self, n: usize, at: usize) -> bool
         ensures { result ≡ holds_record (length self.entry.bytes.now) self.entry.last n at }
     {
-        !count_ok(POINTS_MOST, n) || self.holds(at, n * 55)
+        !count_ok(n) || self.holds(at, n * 55)
     }
 }
 

@@ -9,7 +9,7 @@ ghost use Rattle.reader.specs.declared.traverse.Known.TheVariants as known;
 
 use crate::{Cursor, Window};
 use records::groups::{Group, count, group_at, store_group};
-use records::limits::{POINTS_MOST, count_ok};
+use records::limits::count_ok;
 use records::{Head, Kind, Refusal, Station, need};
 
 // A traverse as far as it was read: its head and its count of points.
@@ -73,10 +73,7 @@ impl TraverseRead {
     {
         let count = self.count;
         need(count > 0, Refusal::new(Kind::Ended, c.line))?;
-        need(
-            count_ok(POINTS_MOST, count),
-            Refusal::new(Kind::Points, count),
-        )?;
+        need(count_ok(count), Refusal::new(Kind::Points, count))?;
         need(count <= room, Refusal::new(Kind::Lent, 0))?;
         Ok(self)
     }

@@ -3,8 +3,9 @@ use mathlib.Core.Path.{◌≡◌, refl, sym, ◌∙◌}
 use mathlib.Core.Bool.{Bool, true, false, ◌&&◌, not}
 use mathlib.Core.List.{[], ◌∷◌}
 use native.Mathlib.Omega.{arith}
-use borrow.Author.Tests.{not-true}
-use Prim.Native.Nat.{ℕ}
+use borrow.Author.Tests.{not-true, leb-true, le-leb}
+use Prim.Native.Nat.{ℕ, ◌≤◌}
+use lib.Dec.{leb}
 use lib.IntN.{ℤ, pos, neg_ℤ}
 use lib.Signed.{lt_z, le_z, ◌≤ℤ◌, ◌<ℤ◌}
 use Rattle.ranges.specs.declared.Range.{Range}
@@ -12,7 +13,7 @@ use Rattle.ranges.specs.Bounds.{Sized}
 use Rattle.ranges.specs.Range.{Positive}
 use Rattle.ranges.proofs.Branches.{lt-true, lt-false, le-true, le-false}
 use Rattle.ranges.proofs.LinearSolver.{zomega, says, ◌&◌}
-use Rattle.records.specs.Limits.{inside, range_inside, water_ok}
+use Rattle.records.specs.Limits.{inside, range_inside, most_points, count_ok, build_has, water_ok}
 
 -- ---- flags
 
@@ -49,6 +50,26 @@ le-flag a b h = go (le_z a b) refl
     go : (u : Bool) → le_z a b ≡ u → u ≡ true
     go true e = refl
     go false e = absurd (never_both (le-false a b e) h)
+
+-- ---- a count of points that is allowed: 2 at least and the most at most
+
+pub counts-in : (n : ℕ) → count_ok n ≡ true → (2 ≤ n) × (n ≤ most_points)
+unfolding count_ok
+counts-in n e = (leb-true 2 n (and_left (leb 2 n) (leb n most_points) e), leb-true n most_points (and_right (leb 2 n) (leb n most_points) e))
+
+pub counts-pass : (n : ℕ) → 2 ≤ n → n ≤ most_points → count_ok n ≡ true
+unfolding count_ok
+counts-pass n h k = rw (le-leb 2 n h, le-leb n most_points k)
+
+-- and that a build has
+
+pub build-in : (most n : ℕ) → build_has most n ≡ true → n ≤ most
+unfolding build_has
+build-in most n e = leb-true n most e
+
+pub build-passes : (most n : ℕ) → n ≤ most → build_has most n ≡ true
+unfolding build_has
+build-passes most n h = le-leb n most h
 
 -- ---- a limit
 

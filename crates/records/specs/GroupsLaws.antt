@@ -1,5 +1,5 @@
 -- Each kind of group keeps the laws of `Groups`. Assumes nothing.
-use Rattle.std.specs.Prelude.{◌≡◌, refl, List, ℕ, length, ℤ}
+use Rattle.std.specs.Prelude.{◌≡◌, refl, List, length, ℤ}
 use Rattle.std.proofs.Common.{rules}
 use Rattle.ranges.specs.declared.Range.{Range}
 use Rattle.records.specs.declared.Head.{Head}

@@ -21,8 +21,15 @@ range_inside low high r = inside low high r.low && inside low high r.high
 abbrev pub most_points : ℕ
 most_points = 65
 
-unfoldable pub count_ok : ℕ → ℕ → Bool
-count_ok most n = leb 2 n && leb n most
+unfoldable pub count_ok : ℕ → Bool
+count_ok n = leb 2 n && leb n most_points
+
+-- how many a build of the march may have of them: all of these, as our own program, or document 02's harbour panel, "with 16 segments at most"
+abbrev pub panel_points : ℕ
+panel_points = 17
+
+unfoldable pub build_has : ℕ → ℕ → Bool
+build_has most n = leb n most
 
 abbrev pub latitude_ok : ℤ → Bool
 latitude_ok = inside (pos 0) (pos 900)

@@ -104,7 +104,7 @@ impl Row {
 
 // What is refused, each by its number. Checks 1 to 12 are document 01's: 1 to 4 those of a file's text, 5 to 7 of a traverse, 8 and 9 of a
 // record, 10 to 12 of the march. The others are document 02's: 13 and 14 of what a storm record is made from, 15 to 17 of a card deck,
-// 18 of a record.
+// 18 of a record, 19 of a traverse on the harbour panel.
 #[derive(Clone, Copy, Debug, PartialEq, Eq)]
 pub enum Kind {
     Names = 1,
@@ -125,6 +125,7 @@ pub enum Kind {
     CardUnit = 16,
     CardCounts = 17,
     CalmAngle = 18,
+    PanelPoints = 19,
 }
 
 impl Kind {

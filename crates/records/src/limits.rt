@@ -1,9 +1,9 @@
 // The limits of document 01's table of quantities, by name, and the tests against them. Both ends belong to a limit. Those of a row stand
 // with the row. `specs/Limits.antt` has the same numbers for the definitions.
-#![tactic(auto, unfolding(crate::specs::Limits::inside, crate::specs::Limits::range_inside, crate::specs::Limits::count_ok, crate::specs::Limits::head_ok, crate::specs::Limits::station_ok, crate::specs::Limits::point_ok, crate::specs::Limits::calm_ok, crate::specs::Limits::row_ok, crate::specs::Limits::seconds_ok))]
+#![tactic(auto, unfolding(crate::specs::Limits::inside, crate::specs::Limits::range_inside, crate::specs::Limits::count_ok, crate::specs::Limits::build_has, crate::specs::Limits::head_ok, crate::specs::Limits::station_ok, crate::specs::Limits::point_ok, crate::specs::Limits::calm_ok, crate::specs::Limits::row_ok, crate::specs::Limits::seconds_ok))]
 
 ghost use Rattle.std.specs.Prelude.{◌≡◌};
-ghost use Rattle.records.specs.Limits.{inside, range_inside, count_ok, head_ok, station_ok, point_ok, calm, calm_ok, row_ok, seconds_ok};
+ghost use Rattle.records.specs.Limits.{inside, range_inside, count_ok, build_has, head_ok, station_ok, point_ok, calm, calm_ok, row_ok, seconds_ok};
 
 use super::{Head, Point, Row, Station};
 use ranges::Range;
@@ -15,6 +15,11 @@ pub const POINTS_LEAST: usize = 2;
 pub const POINTS_MOST: usize = 65;
 
 pub const SEGMENTS_MOST: usize = 64;
+
+// And on the harbour panel.
+pub const PANEL_POINTS: usize = 17;
+
+pub const PANEL_SEGMENTS: usize = 16;
 
 pub const LATITUDE: Range = Range { low: 0, high: 900 };
 
@@ -106,11 +111,18 @@ pub fn range_inside(r: Range, limits: Range) -> bool
     inside(r.low, limits) && inside(r.high, limits)
 }
 
-// Whether a traverse may have so many points, where it may have `most`.
-pub fn count_ok(most: usize, n: usize) -> bool
-    ensures { result ≡ count_ok most n }
+// Whether a traverse may have so many points.
+pub fn count_ok(n: usize) -> bool
+    ensures { result ≡ count_ok n }
 {
-    (POINTS_LEAST..=most).contains(&n)
+    (POINTS_LEAST..=POINTS_MOST).contains(&n)
+}
+
+// And whether a build whose traverses may have `most` points takes so many.
+pub fn build_has(most: usize, n: usize) -> bool
+    ensures { result ≡ build_has most n }
+{
+    n <= most
 }
 
 pub fn head_ok(h: Head) -> bool

@@ -6,12 +6,11 @@ use Prim.Native.Nat.{ℕ, zero, suc, ◌*◌, ◌≤◌}
 use lib.ListN.{length}
 use lib.IntN.{ℤ}
 use Rattle.records.specs.Groups.{station_count}
-use Rattle.records.specs.Limits.{most_points}
 use Rattle.records.specs.Shapes.{traverse}
 use Rattle.records.proofs.GroupLaws.{wholes-fit}
 use Rattle.march.specs.Given.{given}
 use Rattle.march.specs.GroupsLaws.{state-laws}
-use Rattle.march.proofs.Places.{open-place, take-place}
+use Rattle.march.proofs.Refused.{open-place, take-place}
 use Rattle.lent.proofs.Again.{whole-place}
 use Rattle.surge_c.specs.Rows.{numbers_from, rows_from}
 use Rattle.surge_c.specs.Again.{RowsAgain, StateAgain, Fitting, OpenPlaceWhole, TakePlaceWhole}
@@ -38,7 +37,7 @@ below : {a b c : ℕ} → a ≤ b → b ≤ c → a ≤ c
 below h g = omega (arith, h, g)
 
 pub open-place-whole : OpenPlaceWhole
-open-place-whole head points number place h e = whole-place place (below (open-place most_points (traverse head points) number place e) (count_at points h))
+open-place-whole most head points number place h e = whole-place place (below (open-place most (traverse head points) number place e) (count_at points h))
 
 pub take-place-whole : TakePlaceWhole
-take-place-whole t r st rows setup number place h e = whole-place place (below (take-place (given most_points t r st rows setup) number place e) (count_at t.points h))
+take-place-whole most t r st rows setup number place h e = whole-place place (below (take-place (given most t r st rows setup) number place e) (count_at t.points h))

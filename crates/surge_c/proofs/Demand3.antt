@@ -7,7 +7,6 @@ use lib.ListN.{length, length-map}
 use lib.IntN.{ℤ}
 use Rattle.records.specs.declared.Head.{Head}
 use Rattle.records.specs.declared.Row.{Row}
-use Rattle.records.specs.Limits.{most_points}
 use Rattle.records.specs.Groups.{of_row, groups}
 use Rattle.records.specs.Shapes.{Traverse, traverse, count}
 use Rattle.records.proofs.GroupLaws.{groups-length, flat-length}
@@ -30,11 +29,11 @@ use Rattle.surge_c.specs.Calls.{LeftRows, after_taken, take_call, Takes}
 use Rattle.surge_c.specs.Demand3.{LentCall, brought, AllKept, AllTold, LentDemand3, taking, TextDemand3}
 use Rattle.surge_c.proofs.Again.{rows-again, state-again}
 
-module _ (head : Head) (points : List ℤ) where
+module _ (most : ℕ) (head : Head) (points : List ℤ) where
   -- a call that keeps its promise, on numbers that the march's list has
   call-told : (st : State) (l : List ℤ) (k : ℕ) → length l ≡ 3 * k → (c : LentCall) → length c.answer ≡ 3
-      → Takes head.latitude head.friction head.initial points c.seconds c.tide c.storm (state_numbers st) (rows_from l) c.setup c.answer c.left
-      → let x = called most_points (traverse head points) st l (brought c) in c.left ≡ after_taken x.answer x (state_numbers st) (rows_from l)
+      → Takes most head.latitude head.friction head.initial points c.seconds c.tide c.storm (state_numbers st) (rows_from l) c.setup c.answer c.left
+      → let x = called most (traverse head points) st l (brought c) in c.left ≡ after_taken x.answer x (state_numbers st) (rows_from l)
   unfolding take_call buffers_ok
   call-told st l k long c three e = e ∙ rw (three, state-again st, rows-again.back l k long)
 
@@ -44,14 +43,14 @@ module _ (head : Head) (points : List ℤ) where
   next (accepted elapsed low high) g x w s = (refl, refl)
   next (refused number place) g x w s = (ap state_numbers (sym s.same-state), ap rows_from (sym s.same_rows))
 
-  carried : (st : State) (l : List ℤ) (k : ℕ) (x : Exact) (calls : List LentCall) → length l ≡ 3 * k → AllKept head points (state_numbers st) (rows_from l) calls
-      → AllSound most_points (traverse head points) st l x (map brought calls) → AllTold head points st l calls
+  carried : (st : State) (l : List ℤ) (k : ℕ) (x : Exact) (calls : List LentCall) → length l ≡ 3 * k → AllKept most head points (state_numbers st) (rows_from l) calls
+      → AllSound most (traverse head points) st l x (map brought calls) → AllTold most head points st l calls
   unfolding AllKept AllTold AllSound
   carried st l k x [] long kept sound = tt
   carried st l k x (c ∷ calls) long kept sound = (here, carried w.state w.rows k _ calls (rows_long g ∙ long) (lent-next kept.1.1) sound.1)
     where
       g : Given
-      g = called_with most_points (traverse head points) st l (brought c)
+      g = called_with most (traverse head points) st l (brought c)
 
       w : march.Left
       w = take_of g
@@ -62,28 +61,28 @@ module _ (head : Head) (points : List ℤ) where
       after : ((after_taken w.answer w (state_numbers st) (rows_from l)).state ≡ state_numbers w.state) × ((after_taken w.answer w (state_numbers st) (rows_from l)).rows ≡ rows_from w.rows)
       after = next w.answer g x w sound.0
 
-      lent-next : AllKept head points c.left.state c.left.rows calls → AllKept head points (state_numbers w.state) (rows_from w.rows) calls
+      lent-next : AllKept most head points c.left.state c.left.rows calls → AllKept most head points (state_numbers w.state) (rows_from w.rows) calls
       lent-next all =
-          subst (λ (s : List ℤ). AllKept head points s (rows_from w.rows) calls) (ap (λ (z : LeftRows). z.state) here ∙ after.0)
-          (subst (λ (rs : List Row). AllKept head points c.left.state rs calls) (ap (λ (z : LeftRows). z.rows) here ∙ after.1) all)
+          subst (λ (s : List ℤ). AllKept most head points s (rows_from w.rows) calls) (ap (λ (z : LeftRows). z.state) here ∙ after.0)
+          (subst (λ (rs : List Row). AllKept most head points c.left.state rs calls) (ap (λ (z : LeftRows). z.rows) here ∙ after.1) all)
 
 rows-fresh : (t : Traverse) → length (fresh_rows t) ≡ 3 * segments t
 rows-fresh t = flat-length 3 of_row (groups (fresh_row_at t) (segments t)) (λ v. refl) ∙ ap (λ (n : ℕ). 3 * n) (groups-length (fresh_row_at t) (segments t))
 
 pub lent-demand3 : LentDemand3
-lent-demand3 head points x calls kept =
+lent-demand3 most head points x calls kept =
     let t = traverse head points in
-    let o = open-again head points x in
-    let sound = demand3 most_points t o.0 (map brought calls) in
-    (carried head points (open_of most_points t).state (fresh_rows t) (segments t) exact_fresh calls (rows-fresh t) (rw o.1 at kept) sound, sound)
+    let o = open-again most head points x in
+    let sound = demand3 most t o.0 (map brought calls) in
+    (carried most head points (open_of most t).state (fresh_rows t) (segments t) exact_fresh calls (rows-fresh t) (rw o.1 at kept) sound, sound)
 
 -- ---- the same of texts
 
 pub text-demand3 : TextDemand3
-text-demand3 traverse-text storm-text short r nought x steps all kept =
+text-demand3 most traverse-text storm-text short r nought x steps all kept =
     let n = count (traverse (head_left r.left) (points_left r.left)) in
     let s = storm-again storm-text short n (map (λ s. s.reading) steps) all in
-    let d = lent-demand3 (head_left r.left) (points_left r.left) x (map (taking n) steps) kept in
+    let d = lent-demand3 most (head_left r.left) (points_left r.left) x (map (taking n) steps) kept in
     record {
       traverse-is = (traverse-again traverse-text r).accepted nought;
       read-are = s;

@@ -1,192 +1,147 @@
--- `take_numbers` on the numbers of rows is the call on the rows: it reads and writes no other numbers. Assumes nothing.
-use mathlib.Core.Path.{◌≡◌, refl, sym, ap, subst, ◌∙◌}
+-- `take_numbers` on the numbers of rows is the call on the rows, though it moves no more than k of them, by way of 3k numbers, and a traverse may have
+-- more rows lent than it has segments. Assumes nothing.
+use mathlib.Core.Path.{◌≡◌, refl, sym, ap, ◌∙◌}
 use mathlib.Core.Bool.{Bool, true, false, cond}
-use mathlib.Core.List.{List, [], ◌∷◌, ◌++◌, append-nil}
+use mathlib.Core.List.{List, [], ◌∷◌}
 use borrow.Author.Tests.{leb-true, leb-false}
 use native.Mathlib.Omega.{arith}
-use Prim.Native.Nat.{ℕ, ◌*◌, ◌≤◌, ◌<◌}
+use Prim.Native.Nat.{ℕ, ◌-◌, ◌*◌, ◌≤◌, ◌<◌}
 use lib.Dec.{leb}
-use lib.ListN.{length, take, drop, length-append, drop_of_length-le}
-use lib.Seq.{take_at, drop_at}
+use lib.ListN.{length, take, drop}
+use lib.Seq.{take_at}
 use lib.IntN.{ℤ}
 use Rattle.records.specs.declared.Row.{Row}
 use Rattle.records.specs.declared.Kind.TheVariants.{Lent}
 use Rattle.records.specs.Refusals.{refusal}
 use Rattle.records.specs.Groups.{wholes, row_count}
-use Rattle.records.specs.Limits.{most_points}
 use Rattle.records.specs.Shapes.{Traverse, Record}
 use Rattle.std.specs.Prelude.{Ok, Err}
 use Rattle.records.specs.CheckOrder.{Check, Pass, Fail, ◌then◌}
-use Rattle.march.specs.declared.State.{State}
 use Rattle.march.specs.Answers.{Told, accepted, refused}
-use Rattle.march.specs.Given.{given, segments}
+use Rattle.march.specs.Given.{Given, given, segments}
 use Rattle.march.specs.Checks.{traverse_check}
 use Rattle.march.specs.Take.{after_checks, take_of}
 use Rattle.march.specs.Take as march
+use Rattle.march.specs.TakeBounds.{lesser}
 use Rattle.march.proofs.ChecksPassed.{traverse-in}
-use Rattle.march.proofs.Places.{wrong-rows}
+use Rattle.march.proofs.Refused.{wrong-rows}
 use Rattle.march.proofs.TakeLaws.{rows_long}
 use Rattle.lent.specs.Numbers.{state_of, buffers_ok, wrong_buffer}
-use Rattle.surge_c.specs.Rows.{numbers_from, laid, backed, moved_rows}
-use Rattle.lent.specs.Calls.{rows_size, traverse_given, storm_given, march_left, LeftNumbers, left_numbers, after_numbers, numbers_with, take_numbers}
+use Rattle.lent.specs.Calls.{rows_size, march_left, LeftNumbers, left_numbers, after_numbers, take_numbers}
 use Rattle.lent.proofs.CallLaws.{size_few, size-many}
-use Rattle.surge_c.specs.Calls.{left_rows, after_taken, take_with, take_call}
-use Rattle.surge_c.proofs.RowLaws.{backed-laid, numbers-length, rows_back, count-is}
-use Rattle.surge_c.proofs.CallLaws.{zeros, with_numbers, in_rows, Framed, call-said}
-
--- ---- numbers past those of the rows are not read and not changed
-
-empty : (l : List ℤ) → length l ≡ 0 → l ≡ []
-empty [] e = refl
-empty (x ∷ l) e = absurd (omega arith)
-
-past_all : (l : List ℤ) (i : ℕ) → length l ≤ i → drop i l ≡ []
-past_all l i h = drop_of_length-le l {i = i} h
+use Rattle.surge_c.specs.Rows.{numbers_from, laid, backed}
+use Rattle.surge_c.specs.Calls.{LeftRows, left_rows, after_taken, take_rows}
+use Rattle.surge_c.proofs.RowLaws.{past, laid-all, backed-all, backed-laid, numbers-length, count-is}
 
 take_none : (l : List ℤ) → take 0 l ≡ []
 take_none [] = refl
 take_none (x ∷ l) = refl
 
-module _ (latitude friction initial : ℤ) (points : List ℤ) (seconds tide : ℤ) (storm state setup answer : List ℤ) where
-  abbrev t : Traverse
-  t = traverse_given latitude friction initial points
+none-held : row_count [] ≡ 0
+unfolding wholes
+none-held = refl
 
-  abbrev r : Record
-  r = storm_given seconds tide storm
+-- with k rows moved at the most
+module _ (most k : ℕ) (t : Traverse) (r : Record) (state : List ℤ) (rows : List Row) (setup answer below : List ℤ)
+    (room : lesser (most - 1) (length rows) ≤ k) (small : k ≤ 64) where
+  abbrev n : ℕ
+  n = length rows
 
-  abbrev st : State
-  st = state_of state
+  -- what the march is given, with these for the rows
+  abbrev with_rows : List ℤ → Given
+  with_rows l = given most t r (state_of state) l setup
 
-  abbrev take_rows : ℕ → List ℤ → LeftNumbers
-  take_rows n l = take_numbers latitude friction initial points seconds tide storm state n l setup answer
+  abbrev on_rows : List ℤ → march.Left
+  on_rows l = march_left most t r (state_of state) l setup
 
-  -- with n rows, and no more than may be lent
-  of-few : (n : ℕ) (l more : List ℤ) → n ≤ 64 → length l ≡ 3 * n → take_rows n (l ++ more) ≡ numbers_with (march_left t r st l setup) (3 * n) state (l ++ more) setup answer
+  -- the numbers that are lent for m rows
+  abbrev numbers : ℕ → List ℤ
+  numbers m = laid m rows below
+
+  -- what was left as numbers, with m rows made of them
+  abbrev in_rows : ℕ → LeftNumbers → LeftRows
+  in_rows m x = left_rows x.number x.state (backed m x.numbers rows) x.setup x.answer
+
+  -- ---- all the rows are moved: they are what the numbers are
+
+  rows-are : take (3 * n) (numbers n) ≡ numbers_from rows
+  rows-are = rw (laid-all rows below) (take_at (numbers_from rows) (past rows below) (3 * n) (numbers-length rows))
+
+  as-many : length (on_rows (numbers_from rows)).rows ≡ 3 * n
+  as-many = rows_long (with_rows (numbers_from rows)) ∙ numbers-length rows
+
+  few-by : (ok : Bool) (told : Told) → let x = on_rows (numbers_from rows) in
+      in_rows n (cond ok (after_numbers told x (3 * n) state (numbers n)) (left_numbers wrong_buffer state (numbers n) setup answer))
+      ≡ cond ok (after_taken told x state rows) (left_rows wrong_buffer state rows setup answer)
+  few-by true (accepted elapsed low high) = rw (backed-all rows (on_rows (numbers_from rows)).rows (drop (3 * n) (numbers n)) as-many)
+  few-by true (refused number place) = rw (backed-laid n rows below)
+  few-by false told = rw (backed-laid n rows below)
+
+  few : length (numbers n) ≡ 3 * k → n ≤ k → in_rows n (take_numbers most t r state n (numbers n) setup answer) ≡ take_rows most t r state rows setup answer
   unfolding take_numbers
-  of-few n l more h e =
-      let k : 3 * n ≤ length (l ++ more) = rw (length-append l more) (omega arith) in
-      rw (size_few n (length (l ++ more)) h k, take_at l more (3 * n) e)
+  few e h =
+      rw (size_few n (length (numbers n)) (omega (arith, small)) (omega (arith, e)), rows-are)
+      (few-by (buffers_ok (length state) (length answer)) (on_rows (numbers_from rows)).answer)
 
-  of-all : (n : ℕ) (l : List ℤ) → n ≤ 64 → length l ≡ 3 * n → take_rows n l ≡ numbers_with (march_left t r st l setup) (3 * n) state l setup answer
-  of-all n l h e = subst (λ (z : List ℤ). take_rows n z ≡ numbers_with (march_left t r st l setup) (3 * n) state z setup answer) (append-nil l) (of-few n l [] h e)
+  -- ---- there are more: no traverse has so many segments, and the call is refused whatever they are
 
-  of-many : (n : ℕ) (l : List ℤ) → 64 < n → take_rows n l ≡ numbers_with (march_left t r st [] setup) 0 state l setup answer
+  alike : (l : List ℤ) → (traverse_check most t ≡ Pass → row_count l ≡ segments t → ⊥) → on_rows l ≡ after_checks (traverse_check most t then Fail (refusal Lent 0)) (with_rows l)
+  unfolding take_of
+  alike l h = ap (λ (c : Check). after_checks c (with_rows l)) (wrong-rows most t _ _ l (length setup) h)
+
+  none : traverse_check most t ≡ Pass → row_count [] ≡ segments t → ⊥
+  none p q = let v = traverse-in most t p in omega (arith, none-held, q, v.from)
+
+  too-many : k < n → traverse_check most t ≡ Pass → row_count (numbers_from rows) ≡ segments t → ⊥
+  too-many h p q = let v = traverse-in most t p in omega (arith, h, room, count-is rows, q, v.build, v.from)
+
+  many-by : (m : ℕ) (ok : Bool) (c : Check) → let none-left = after_checks (c then Fail (refusal Lent 0)) (with_rows []) in let left = after_checks (c then Fail (refusal Lent 0)) (with_rows (numbers_from rows)) in
+      in_rows m (cond ok (after_numbers none-left.answer none-left 0 state (numbers m)) (left_numbers wrong_buffer state (numbers m) setup answer))
+      ≡ cond ok (after_taken left.answer left state rows) (left_rows wrong_buffer state rows setup answer)
+  many-by m true (Ok u) = rw (backed-laid m rows below)
+  many-by m true (Err refusal) = rw (backed-laid m rows below)
+  many-by m false c = rw (backed-laid m rows below)
+
+  many : (m : ℕ) → length (numbers m) ≡ 3 * k → k < n → in_rows m (take_numbers most t r state n (numbers m) setup answer) ≡ take_rows most t r state rows setup answer
   unfolding take_numbers
-  of-many n l h = rw (size-many n (length l) h, take_none l)
+  many m e h =
+      rw (size-many n (length (numbers m)) (omega (arith, e, h)), take_none (numbers m), alike [] none, alike (numbers_from rows) (too-many h))
+      (many-by m (buffers_ok (length state) (length answer)) (traverse_check most t))
 
-  abbrev left_or_refused : Bool → Told → march.Left → ℕ → List ℤ → LeftNumbers
-  left_or_refused ok told x size l = cond ok (after_numbers told x size state l) (left_numbers wrong_buffer state l setup answer)
-
-  pub framed : Framed take_rows
-  framed = record {
-    few = λ n l more h e. of-few n l more h e ∙ few-by n l more e (buffers_ok (length state) (length answer)) (march_left t r st l setup).answer ∙ sym (ap (λ (x : LeftNumbers). with_numbers x (x.numbers ++ more)) (of-all n l h e));
-    long = λ n l h e. ap (λ (x : LeftNumbers). length x.numbers) (of-all n l h e) ∙ long-by n l e (buffers_ok (length state) (length answer)) (march_left t r st l setup).answer;
-    many = λ n l k h. of-many n l h ∙ many_by l k (buffers_ok (length state) (length answer)) (march_left t r st [] setup).answer ∙ sym (ap (λ (x : LeftNumbers). with_numbers x l) (of-many n k h));
-  }
+  moved : length (numbers (lesser n k)) ≡ 3 * k → in_rows (lesser n k) (take_numbers most t r state n (numbers (lesser n k)) setup answer) ≡ take_rows most t r state rows setup answer
+  moved e = by (leb n k) refl
     where
-      few-by : (n : ℕ) (l more : List ℤ) → length l ≡ 3 * n → (ok : Bool) (told : Told) → let x = march_left t r st l setup in
-          left_or_refused ok told x (3 * n) (l ++ more) ≡ with_numbers (left_or_refused ok told x (3 * n) l) ((left_or_refused ok told x (3 * n) l).numbers ++ more)
-      few-by n l more e true (accepted elapsed low high) =
-          let x = march_left t r st l setup in
-          let none : drop (3 * n) l ≡ [] = past_all l (3 * n) (omega arith) in
-          rw (none, append-nil x.rows, drop_at l more (3 * n) e)
-      few-by n l more e true (refused number place) = refl
-      few-by n l more e false told = refl
-
-      long-by : (n : ℕ) (l : List ℤ) → length l ≡ 3 * n → (ok : Bool) (told : Told) → length (left_or_refused ok told (march_left t r st l setup) (3 * n) l).numbers ≡ 3 * n
-      long-by n l e true (accepted elapsed low high) =
-          let x = march_left t r st l setup in
-          let none : drop (3 * n) l ≡ [] = past_all l (3 * n) (omega arith) in
-          rw (none, append-nil x.rows) (rows_long (given most_points t r st l setup) ∙ e)
-      long-by n l e true (refused number place) = e
-      long-by n l e false told = e
-
-      many_by : (l k : List ℤ) (ok : Bool) (told : Told) → let x = march_left t r st [] setup in left_or_refused ok told x 0 l ≡ with_numbers (left_or_refused ok told x 0 k) l
-      many_by l k true (accepted elapsed low high) = rw (empty (march_left t r st [] setup).rows (rows_long (given most_points t r st [] setup)), drop-none l)
-        where
-          drop-none : (l : List ℤ) → drop 0 l ≡ l
-          drop-none [] = refl
-          drop-none (y ∷ l) = refl
-      many_by l k true (refused number place) = refl
-      many_by l k false told = refl
+      by : (b : Bool) → leb n k ≡ b → in_rows (lesser n k) (take_numbers most t r state n (numbers (lesser n k)) setup answer) ≡ take_rows most t r state rows setup answer
+      by true q =
+          let h : n ≤ k = leb-true n k q in
+          let all : lesser n k ≡ n = omega (arith, h) in
+          rw all (few (rw all at e) h)
+      by false q = many (lesser n k) e (leb-false n k q)
 
   -- a call that is not accepted leaves the numbers
-  pub refused-numbers : (n : ℕ) (l : List ℤ) → ((take_rows n l).number ≡ 0 → ⊥) → (take_rows n l).numbers ≡ l
+  kept-by : (l : List ℤ) (ok : Bool) (told : Told) (x : march.Left) (size : ℕ) → let left = cond ok (after_numbers told x size state l) (left_numbers wrong_buffer state l setup answer) in (left.number ≡ 0 → ⊥) → left.numbers ≡ l
+  kept-by l true (accepted elapsed low high) x size h = absurd (h refl)
+  kept-by l true (refused number place) x size h = refl
+  kept-by l false told x size h = refl
+
+  kept : (l : List ℤ) → ((take_numbers most t r state n l setup answer).number ≡ 0 → ⊥) → (take_numbers most t r state n l setup answer).numbers ≡ l
   unfolding take_numbers
-  refused-numbers n l = by (buffers_ok (length state) (length answer)) x.answer
-    where
-      size : ℕ
-      size = rows_size n (length l)
+  kept l =
+      let size = rows_size n (length l) in
+      let x = on_rows (take size l) in
+      kept-by l (buffers_ok (length state) (length answer)) x.answer x size
 
-      x : march.Left
-      x = march_left t r st (take size l) setup
+  -- ---- what the code does: m rows moved, and what the call on their numbers answered and left
 
-      by : (ok : Bool) (told : Told) → ((left_or_refused ok told x size l).number ≡ 0 → ⊥) → (left_or_refused ok told x size l).numbers ≡ l
-      by true (accepted elapsed low high) h = absurd (h refl)
-      by true (refused number place) h = refl
-      by false told h = refl
-
-  -- ---- with more rows than may be lent, or none, the record is refused alike
-
-  not-one-each : (rows : List ℤ) → (row_count rows ≡ 0) → traverse_check most_points t ≡ Pass → row_count rows ≡ segments t → ⊥
-  not-one-each rows e p q = let v = traverse-in most_points t p in omega (arith, e, q, v.from)
-
-  too_many : (rows : List ℤ) → 64 < row_count rows → traverse_check most_points t ≡ Pass → row_count rows ≡ segments t → ⊥
-  too_many rows e p q = let v = traverse-in most_points t p in omega (arith, e, q, v.to)
-
-  refused-alike : (rows : List ℤ) → (traverse_check most_points t ≡ Pass → row_count rows ≡ segments t → ⊥) →
-      march_left t r st rows setup ≡ after_checks (traverse_check most_points t then Fail (refusal Lent 0)) (given most_points t r st rows setup)
-  unfolding take_of
-  refused-alike rows h = ap (λ (k : Check). after_checks k (given most_points t r st rows setup)) (wrong-rows most_points t _ _ rows (length setup) h)
-
-  -- ---- rows
-
-  none-held : row_count [] ≡ 0
-  unfolding wholes
-  none-held = refl
-
-  pub rows-call : (rows : List Row) → in_rows (take_rows (length rows) (numbers_from rows)) ≡ take_call latitude friction initial points seconds tide storm state rows setup answer
-  unfolding take_call
-  rows-call rows = by (leb (length rows) 64) refl
-    where
-      few : (ok : Bool) (told : Told) (x : march.Left) →
-          in_rows (cond ok (after_numbers told x (3 * length rows) state (numbers_from rows)) (left_numbers wrong_buffer state (numbers_from rows) setup answer))
-          ≡ cond ok (after_taken told x state rows) (left_rows wrong_buffer state rows setup answer)
-      few true (accepted elapsed low high) x =
-          let e = numbers-length rows in
-          let none : drop (3 * length rows) (numbers_from rows) ≡ [] = past_all (numbers_from rows) (3 * length rows) (omega arith) in
-          rw (none, append-nil x.rows)
-      few true (refused number place) x = rw (rows_back rows)
-      few false told x = rw (rows_back rows)
-
-      many : (ok : Bool) (k : Check) →
-          in_rows (cond ok (after_numbers (after_checks (k then Fail (refusal Lent 0)) (given most_points t r st [] setup)).answer (after_checks (k then Fail (refusal Lent 0)) (given most_points t r st [] setup)) 0 state (numbers_from rows)) (left_numbers wrong_buffer state (numbers_from rows) setup answer))
-          ≡ cond ok (after_taken (after_checks (k then Fail (refusal Lent 0)) (given most_points t r st (numbers_from rows) setup)).answer (after_checks (k then Fail (refusal Lent 0)) (given most_points t r st (numbers_from rows) setup)) state rows) (left_rows wrong_buffer state rows setup answer)
-      many true (Ok u) = rw (rows_back rows)
-      many true (Err refusal) = rw (rows_back rows)
-      many false k = rw (rows_back rows)
-
-      by : (small : Bool) → leb (length rows) 64 ≡ small → in_rows (take_rows (length rows) (numbers_from rows)) ≡ take_with (march_left t r st (numbers_from rows) setup) state rows setup answer
-      by true e =
-          ap in_rows (of-all (length rows) (numbers_from rows) (leb-true (length rows) 64 e) (numbers-length rows))
-          ∙ few (buffers_ok (length state) (length answer)) (march_left t r st (numbers_from rows) setup).answer (march_left t r st (numbers_from rows) setup)
-      by false e =
-          let h : 64 < length rows = leb-false (length rows) 64 e in
-          let c = count-is rows in
-          ap in_rows (of-many (length rows) (numbers_from rows) h)
-          ∙ rw (refused-alike [] (not-one-each [] none-held), refused-alike (numbers_from rows) (too_many (numbers_from rows) (omega (arith, h, c)))) (many (buffers_ok (length state) (length answer)) (traverse_check most_points t))
-
-  -- ---- the numbers of m rows, laid over zeros
-
-  module _ (rows : List Row) (m : ℕ) (m-is : m ≡ moved_rows (length rows)) (numbers : List ℤ) (numbers-are : numbers ≡ laid m rows zeros)
-      (number : ℕ) (state' numbers' setup' answer' : List ℤ) (e : left_numbers number state' numbers' setup' answer' ≡ take_rows (length rows) numbers) where
+  module _ (m : ℕ) (m-is : m ≡ lesser n k) (lent : List ℤ) (lent-is : lent ≡ numbers m) (size : length lent ≡ 3 * k)
+      (number : ℕ) (state' numbers' setup' answer' : List ℤ) (e : left_numbers number state' numbers' setup' answer' ≡ take_numbers most t r state n lent setup answer) where
     -- with rows made of what was left
-    pub rows-taken : left_rows number state' (backed m numbers' rows) setup' answer' ≡ take_call latitude friction initial points seconds tide storm state rows setup answer
-    rows-taken = call-said take_rows framed rows m m-is number state' numbers' setup' answer' (e ∙ ap (take_rows (length rows)) numbers-are) ∙ rows-call rows
+    pub rows-taken : left_rows number state' (backed m numbers' rows) setup' answer' ≡ take_rows most t r state rows setup answer
+    rows-taken = ap (in_rows m) e ∙ rw lent-is ((rw (← m-is) at moved) (rw lent-is at size))
 
     -- with the rows as they were, where the call is not accepted
-    pub rows-kept : (number ≡ 0 → ⊥) → left_rows number state' rows setup' answer' ≡ take_call latitude friction initial points seconds tide storm state rows setup answer
+    pub rows-kept : (number ≡ 0 → ⊥) → left_rows number state' rows setup' answer' ≡ take_rows most t r state rows setup answer
     rows-kept other =
-        let kept : numbers' ≡ laid m rows zeros = ap (λ (x : LeftNumbers). x.numbers) e ∙ refused-numbers (length rows) numbers (λ z. other (ap (λ (x : LeftNumbers). x.number) e ∙ z)) ∙ numbers-are in
-        let same : rows ≡ backed m numbers' rows = sym (ap (λ (l : List ℤ). backed m l rows) kept ∙ backed-laid m rows zeros) in
-        ap (λ (l : List Row). left_rows number state' l setup' answer') same ∙ rows-taken
+        let same : numbers' ≡ numbers m = ap (λ (x : LeftNumbers). x.numbers) e ∙ kept lent (λ z. other (ap (λ (x : LeftNumbers). x.number) e ∙ z)) ∙ lent-is in
+        let back : rows ≡ backed m numbers' rows = sym (ap (λ (l : List ℤ). backed m l rows) same ∙ backed-laid m rows below) in
+        ap (λ (l : List Row). left_rows number state' l setup' answer') back ∙ rows-taken

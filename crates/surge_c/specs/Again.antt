@@ -5,7 +5,6 @@ use Rattle.std.specs.Prelude.{◌≡◌, List, ℕ, ◌*◌, ◌<◌, ◌^◌, l
 use Rattle.records.specs.declared.Head.{Head}
 use Rattle.records.specs.declared.Row.{Row}
 use Rattle.records.specs.Groups.{row_count}
-use Rattle.records.specs.Limits.{most_points}
 use Rattle.records.specs.Shapes.{Traverse, traverse, Record}
 use Rattle.march.specs.declared.State.{State}
 use Rattle.march.specs.Answers.{refused, not_opened}
@@ -30,7 +29,7 @@ abbrev pub Fitting : List ℤ → Type 0
 Fitting l = length l < 2 ^ 64
 
 abbrev pub OpenPlaceWhole : Type 0
-OpenPlaceWhole = (head : Head) (points : List ℤ) (number place : ℕ) → Fitting points → (open_of most_points (traverse head points)).answer ≡ not_opened number place → place_number place ≡ pos place
+OpenPlaceWhole = (most : ℕ) (head : Head) (points : List ℤ) (number place : ℕ) → Fitting points → (open_of most (traverse head points)).answer ≡ not_opened number place → place_number place ≡ pos place
 
 abbrev pub TakePlaceWhole : Type 0
-TakePlaceWhole = (t : Traverse) (r : Record) (st : State) (rows setup : List ℤ) (number place : ℕ) → Fitting t.points → (march_left t r st rows setup).answer ≡ refused number place → place_number place ≡ pos place
+TakePlaceWhole = (most : ℕ) (t : Traverse) (r : Record) (st : State) (rows setup : List ℤ) (number place : ℕ) → Fitting t.points → (march_left most t r st rows setup).answer ≡ refused number place → place_number place ≡ pos place

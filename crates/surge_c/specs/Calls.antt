@@ -1,8 +1,9 @@
 -- The exported call that takes a record, on row structs, whatever it is given: what is returned, and everything that was lent. It is the march's own
--- definition (`take_of`) of the rows' numbers. `Takes` is the promise itself: the `ensures` of `fennhop_take_record` and the statement over lists of
--- calls are both of it. The other three are `lent`'s own.
+-- definition (`take_of`) of the rows' numbers, for any limit on points. `Takes` is the promise itself: the `ensures` of `fennhop_take_record`, with 65
+-- points, and of `fennhop_panel_take_record`, with 17, and the statement over lists of calls are all of it. The other calls are `lent`'s own.
 use Rattle.std.specs.Prelude.{◌≡◌, cond, List, ℕ, length, ℤ, pos}
 use Rattle.records.specs.declared.Row.{Row}
+use Rattle.records.specs.Shapes.{Traverse, Record}
 use Rattle.march.specs.Answers.{Told, accepted, refused}
 use Rattle.march.specs.Take as march
 use Rattle.lent.specs.Numbers.{state_of, state_numbers, answer_numbers, refused_answer, buffers_ok, wrong_buffer}
@@ -28,10 +29,12 @@ abbrev pub take_with : march.Left → List ℤ → List Row → List ℤ → Lis
 take_with x state rows setup answer =
     cond (buffers_ok (length state) (length answer)) (after_taken x.answer x state rows) (left_rows wrong_buffer state rows setup answer)
 
-unfoldable pub take_call : ℤ → ℤ → ℤ → List ℤ → ℤ → ℤ → List ℤ → List ℤ → List Row → List ℤ → List ℤ → LeftRows
-take_call latitude friction initial points seconds tide storm state rows setup answer =
-    take_with (march_left (traverse_given latitude friction initial points) (storm_given seconds tide storm) (state_of state) (numbers_from rows) setup) state rows setup answer
+abbrev pub take_rows : ℕ → Traverse → Record → List ℤ → List Row → List ℤ → List ℤ → LeftRows
+take_rows most t r state rows setup answer = take_with (march_left most t r (state_of state) (numbers_from rows) setup) state rows setup answer
+
+unfoldable pub take_call : ℕ → ℤ → ℤ → ℤ → List ℤ → ℤ → ℤ → List ℤ → List ℤ → List Row → List ℤ → List ℤ → LeftRows
+take_call most latitude friction initial points seconds tide storm = take_rows most (traverse_given latitude friction initial points) (storm_given seconds tide storm)
 
 -- the promise of the call, on these and with this left
-abbrev pub Takes : ℤ → ℤ → ℤ → List ℤ → ℤ → ℤ → List ℤ → List ℤ → List Row → List ℤ → List ℤ → LeftRows → Type 0
-Takes latitude friction initial points seconds tide storm state rows setup answer left = left ≡ take_call latitude friction initial points seconds tide storm state rows setup answer
+abbrev pub Takes : ℕ → ℤ → ℤ → ℤ → List ℤ → ℤ → ℤ → List ℤ → List ℤ → List Row → List ℤ → List ℤ → LeftRows → Type 0
+Takes most latitude friction initial points seconds tide storm state rows setup answer left = left ≡ take_call most latitude friction initial points seconds tide storm state rows setup answer

@@ -3,3 +3,4 @@ pub mod Rows
 pub mod Calls
 pub mod Again
 pub mod Demand3
+pub mod Panel

@@ -1,5 +1,5 @@
--- Rows as plain numbers, three to a row, and back; and how many of them a call moves.
-use Rattle.std.specs.Prelude.{List, [], ◌∷◌, ℕ, zero, suc, ◌-◌, drop, ℤ}
+-- Rows as plain numbers, three to a row, and back.
+use Rattle.std.specs.Prelude.{List, [], ◌∷◌, ℕ, zero, suc, drop, ℤ}
 use Rattle.records.specs.declared.Row.{Row}
 use Rattle.records.specs.Groups.{row_at}
 
@@ -14,11 +14,7 @@ rows_from (a ∷ []) = []
 rows_from (a ∷ b ∷ []) = []
 rows_from (a ∷ b ∷ c ∷ l) = record { low = a; high = b; cross = c } ∷ rows_from l
 
--- ---- the code's own: a call has room for 64 rows
-
--- the lesser of n and 64
-abbrev pub moved_rows : ℕ → ℕ
-moved_rows n = n - (n - 64)
+-- ---- the code's own
 
 -- the numbers of the first i rows in place of those that lay below
 abbrev pub laid : ℕ → List Row → List ℤ → List ℤ

@@ -1,20 +1,49 @@
-// The library for C and for languages that call C. `include/surge.h` says it in C's terms. Each call is `lent`'s. The rows that `fennhop_take_record`
-// is lent are a slice of row structs: it only moves them to numbers and back; everything else is `take_numbers`.
-#![tactic(auto)]
+// The library for C and for languages that call C. `include/surge.h` says it in C's terms. Each call is `lent`'s. Opening a traverse and taking a record
+// are there twice, with the limit on points of our own program and with that of the harbour panel. The rows that are lent for a record are a slice of row
+// structs: they are only moved to numbers and back; everything else is `take_numbers`.
+#![tactic(auto, unfolding(crate::specs::Calls::take_call, lent::specs::Calls::open_call))]
 
-ghost use Rattle.std.specs.Prelude.{◌≡◌, ◌*◌, ◌≤◌, length};
-ghost use Rattle.lent.specs.Calls.{left_open, Opens};
+ghost use Rattle.std.specs.Prelude.{◌≡◌, ◌-◌, ◌*◌, ◌≤◌, length};
+ghost use Rattle.records.specs.Limits.{most_points, panel_points};
+ghost use Rattle.records.specs.Shapes.{traverse_of, storm_of};
+ghost use Rattle.march.specs.TakeBounds.{lesser};
+ghost use Rattle.lent.specs.Calls.{traverse_given, storm_given, left_open, Opens};
 ghost use Rattle.lent.specs.Decks.{left_text, ReadsDeck};
 ghost use Rattle.lent.specs.Making.{left_make, Makes};
 ghost use Rattle.lent.specs.Texts.{left_traverse, ReadsTraverse, left_record, ReadsRecord};
 ghost use Rattle.surge_c.specs.Rows.{laid, backed};
-ghost use Rattle.surge_c.specs.Calls.{left_rows, Takes};
+ghost use Rattle.surge_c.specs.Calls.{left_rows, take_rows, Takes};
 
-use records::Row;
+use march::FEW_SEGMENTS;
 use records::groups::{Group, group_at, store_group};
-use records::limits::SEGMENTS_MOST;
+use records::limits::{PANEL_POINTS, PANEL_SEGMENTS, POINTS_MOST, SEGMENTS_MOST};
+use records::{Closing, Head, Row, StormRecord, Traverse};
 
-// Opens a traverse. `points` has 2 numbers a point. The number of the refusal is returned, 0 where the traverse is accepted.
+// ---- what a call is given, in the march's terms
+
+fn traverse_lent(latitude: i64, friction: i64, initial: i64, points: &[i64]) -> Traverse
+    ensures { traverse_of result ≡ traverse_given latitude friction initial points.now }
+{
+    let head = Head {
+        latitude,
+        friction,
+        initial,
+    };
+    Traverse { head, points }
+}
+
+fn storm_lent(seconds: i64, tide: i64, points: &[i64]) -> StormRecord
+    ensures { storm_of result ≡ storm_given seconds tide points.now }
+{
+    StormRecord {
+        closing: Closing { seconds, tide },
+        points,
+    }
+}
+
+// ---- opening a traverse
+
+// Opens a traverse of 65 points at most. `points` has 2 numbers a point. The number of the refusal is returned, 0 where the traverse is accepted.
 #[unsafe(no_mangle)]
 pub extern "C" fn fennhop_open_traverse(
     latitude: i64,
@@ -24,10 +53,29 @@ pub extern "C" fn fennhop_open_traverse(
     state: &mut [i64],
     answer: &mut [i64],
 ) -> u64
-    ensures { Opens latitude friction initial points.now state.old answer.old (left_open result state.new answer.new) }
+    ensures { Opens most_points latitude friction initial points.now state.old answer.old (left_open result state.new answer.new) }
 {
-    lent::open_traverse(latitude, friction, initial, points, state, answer)
+    let traverse = traverse_lent(latitude, friction, initial, points);
+    lent::open_traverse(POINTS_MOST, traverse, state, answer)
 }
+
+// The same on the harbour panel: of 17 points at most.
+#[unsafe(no_mangle)]
+pub extern "C" fn fennhop_panel_open_traverse(
+    latitude: i64,
+    friction: i64,
+    initial: i64,
+    points: &[i64],
+    state: &mut [i64],
+    answer: &mut [i64],
+) -> u64
+    ensures { Opens panel_points latitude friction initial points.now state.old answer.old (left_open result state.new answer.new) }
+{
+    let traverse = traverse_lent(latitude, friction, initial, points);
+    lent::open_traverse(PANEL_POINTS, traverse, state, answer)
+}
+
+// ---- texts, a hurricane, a card deck
 
 // Reads a traverse text: 3 numbers of values, 2 to each of 65 points, and in the answer how many points there are.
 #[unsafe(no_mangle)]
@@ -96,8 +144,7 @@ pub extern "C" fn fennhop_read_deck(
     lent::read_deck(latitude, friction, initial, deck, text, answer)
 }
 
-// How many numbers the rows are that may be lent: no more can be accepted.
-const MOVED: usize = Row::NUMBERS * SEGMENTS_MOST;
+// ---- rows as numbers, and back
 
 // The numbers of rows, three to a row, into the first of `numbers`.
 fn lay_rows(rows: &[Row], numbers: &mut [i64])
@@ -119,8 +166,52 @@ fn put_back(numbers: &[i64], rows: &mut [Row])
     }
 }
 
-// Takes a record. `points` has 2 numbers a point, `storm` 3, `setup` none or 2 a segment. One equation for what is returned and for everything lent, whatever is
-// lent. (An array of rows would cost the time of copying it.)
+// ---- taking a record
+
+// Takes a record of a traverse that may have `most` points, with room for SEGMENTS rows, which are so many NUMBERS, and scratch for as many segments. One
+// equation for what is returned and for everything lent, whatever is lent.
+fn take_rows<const SEGMENTS: usize, const NUMBERS: usize>(
+    most: usize,
+    traverse: Traverse,
+    storm: StormRecord,
+    state: &mut [i64],
+    rows: &mut [Row],
+    setup: &mut [i64],
+    answer: &mut [i64],
+) -> u64
+    requires { (lesser (most - 1) (length rows.old) ≤ SEGMENTS) × ((SEGMENTS ≤ 64) × (NUMBERS ≡ 3 * SEGMENTS)) }
+    ensures { left_rows result state.new rows.new setup.new answer.new ≡ take_rows most (traverse_of traverse.entry) (storm_of storm.entry) state.old rows.old setup.old answer.old }
+{
+    let n = rows.len();
+    let m = n.min(SEGMENTS);
+    let mut numbers = [0; NUMBERS];
+    lay_rows(&rows[..m], &mut numbers);
+    let number = lent::take_numbers::<SEGMENTS>(
+        most,
+        traverse,
+        storm,
+        state,
+        n,
+        &mut numbers,
+        setup,
+        answer,
+    );
+    // a refused call writes no row
+    if number == 0 {
+        put_back(&numbers, &mut rows[..m]);
+    }
+    number
+}
+
+// How many numbers the rows are: of few segments, of all that a traverse may have, and of all that it may have on the panel.
+const FEW: usize = Row::NUMBERS * FEW_SEGMENTS;
+
+const ALL: usize = Row::NUMBERS * SEGMENTS_MOST;
+
+const PANEL: usize = Row::NUMBERS * PANEL_SEGMENTS;
+
+// Takes a record of a traverse of 65 points at most. `points` has 2 numbers a point, `storm` 3, `setup` none or 2 a segment. Few rows get little room: to
+// clear all of it would take longer than their march.
 #[unsafe(no_mangle)]
 pub extern "C" fn fennhop_take_record(
     latitude: i64,
@@ -135,29 +226,35 @@ pub extern "C" fn fennhop_take_record(
     setup: &mut [i64],
     answer: &mut [i64],
 ) -> u64
-    ensures { Takes latitude friction initial points.now seconds tide storm.now state.old rows.old setup.old answer.old (left_rows result state.new rows.new setup.new answer.new) }
+    ensures { Takes most_points latitude friction initial points.now seconds tide storm.now state.old rows.old setup.old answer.old (left_rows result state.new rows.new setup.new answer.new) }
 {
-    let n = rows.len();
-    let m = n.min(SEGMENTS_MOST);
-    let mut numbers = [0; MOVED];
-    lay_rows(&rows[..m], &mut numbers);
-    let number = lent::take_numbers(
-        latitude,
-        friction,
-        initial,
-        points,
-        seconds,
-        tide,
-        storm,
-        state,
-        n,
-        &mut numbers,
-        setup,
-        answer,
-    );
-    // a refused call writes no row
-    if number == 0 {
-        put_back(&numbers, &mut rows[..m]);
+    let traverse = traverse_lent(latitude, friction, initial, points);
+    let record = storm_lent(seconds, tide, storm);
+    if rows.len() <= FEW_SEGMENTS {
+        take_rows::<FEW_SEGMENTS, FEW>(POINTS_MOST, traverse, record, state, rows, setup, answer)
+    } else {
+        take_rows::<SEGMENTS_MOST, ALL>(POINTS_MOST, traverse, record, state, rows, setup, answer)
     }
-    number
+}
+
+// The same on the harbour panel: of a traverse of 17 points at most.
+#[unsafe(no_mangle)]
+pub extern "C" fn fennhop_panel_take_record(
+    latitude: i64,
+    friction: i64,
+    initial: i64,
+    points: &[i64],
+    seconds: i64,
+    tide: i64,
+    storm: &[i64],
+    state: &mut [i64],
+    rows: &mut [Row],
+    setup: &mut [i64],
+    answer: &mut [i64],
+) -> u64
+    ensures { Takes panel_points latitude friction initial points.now seconds tide storm.now state.old rows.old setup.old answer.old (left_rows result state.new rows.new setup.new answer.new) }
+{
+    let traverse = traverse_lent(latitude, friction, initial, points);
+    let record = storm_lent(seconds, tide, storm);
+    take_rows::<PANEL_SEGMENTS, PANEL>(PANEL_POINTS, traverse, record, state, rows, setup, answer)
 }

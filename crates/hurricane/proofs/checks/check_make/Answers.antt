@@ -3,7 +3,7 @@ use Rattle.std.proofs.Common.{◌≡◌, ℕ, ℤ, sym, ◌∙◌, ◌&&◌, Lis
 use Rattle.records.specs.declared.Kind.TheVariants.{Lent, StormValue, WindRadii}
 use Rattle.records.specs.declared.Refusal.{Refusal}
 use Rattle.records.specs.CheckOrder.{Check, Pass, Fail, need, each, first_of}
-use Rattle.records.specs.Limits.{count_ok, most_points}
+use Rattle.records.specs.Limits.{count_ok}
 use Rattle.records.specs.Refusals.{refusal}
 use Rattle.records.proofs.CheckOrderLaws.{then-pass}
 use Rattle.records.proofs.GroupLaws.{wholes-fit}
@@ -15,7 +15,7 @@ use Rattle.hurricane.proofs.checks.check_make.Goals as goal
 
 -- the checks with the counts that the code has
 by-counts : (h : Hurricane) (winds sites : List ℤ) (room rows points : ℕ) (x : Check) → rows ≡ wind_count winds → points ≡ site_count sites →
-    x ≡ first_of (need (hurricane_ok h && (wind_count_ok rows && count_ok most_points points)) (refusal StormValue 0) ∷ each StormValue (wind_rows_ok winds) rows
+    x ≡ first_of (need (hurricane_ok h && (wind_count_ok rows && count_ok points)) (refusal StormValue 0) ∷ each StormValue (wind_rows_ok winds) rows
     ∷ each StormValue (sites_ok sites) points ∷ each WindRadii (rising_ok winds) rows ∷ need (leb (3 * points) room) (refusal Lent 0) ∷ []) →
     x ≡ make_check h winds sites room
 unfolding make_checks

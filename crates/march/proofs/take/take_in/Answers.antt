@@ -48,7 +48,7 @@ module _ (g : After-count-n) where
   some = omega (arith, many, pass.traverse.from)
 
   few : n ≤ length g.args.legs.now
-  few = omega (arith, many, pass.traverse.to, g.count-n.ensures, g.requires)
+  few = omega (arith, many, pass.traverse.to, pass.traverse.build, g.count-n.ensures, g.requires)
 
   whole : length g.args.rows.now ≡ 3 * n
   whole = wholes-exact _ n g.count-n.ensures some
