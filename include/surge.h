@@ -108,9 +108,9 @@
  *            behind it stays as it was. fennhop_read_traverse is given answer[1] as its count.
  *
  * WHAT A CALL RETURNS: 0 where it is accepted, else the number of the first refusal, with its place in answer[0] (lines, points, rows
- * and segments count from 1). Each number has a name below. The march's two calls make checks 5, 6 to 9, 18 and 10 to 12 alone, in this
- * order, and on the panel 19 directly after 5; the two that read a text return 1 to 5 alone, fennhop_make_record 13, 14 and 8 alone, and fennhop_read_deck 6, 3, 2, 15, 16,
- * 17 and 8 alone, in the order told at each.
+ * and segments count from 1). Each number has a name below. The march's two calls make checks 5 to 9, 18 and 10 to 12 alone, in this
+ * order, and on the panel 19 directly after 5; the two that read a text return 1 to 5 alone, fennhop_make_record 13, 14 and 8 alone,
+ * and fennhop_read_deck 6, 3, 2, 15, 16, 17 and 8 alone, in the order told at each.
  *
  *    1  a names line different, or the text empty                                    line; 1 if empty
  *    2  a value line malformed, or a wrong count of values                           line

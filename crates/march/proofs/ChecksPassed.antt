@@ -22,7 +22,7 @@ use Rattle.records.specs.Groups.{station_at, point_count, point_at, row_count, r
 use Rattle.records.specs.Rows.{row_flux}
 use Rattle.records.specs.Shapes.{Traverse, Record, count}
 use Rattle.records.specs.Limits.{inside, most_points, count_ok, build_has, latitude_ok, friction_ok, initial_ok, head_ok, distance_ok, bed_ok, station_ok, length_ok, shore_ok, tide_ok, seconds_ok, elapsed_ok, wind_ok, angle_ok, deficit_ok, point_ok, calm, calm_ok, flux_ok, cross_ok, row_ok}
-use Rattle.records.proofs.LimitLaws.{and_left, and_right, and_both, le-flag, Between, between, within, range-between, range-within, counts-in, counts-pass, build-in, build-passes}
+use Rattle.records.proofs.LimitLaws.{unequal, and_left, and_right, and_both, le-flag, Between, between, within, range-between, range-within, counts-in, counts-pass, build-in, build-passes}
 use Rattle.records.proofs.CheckOrderLaws.{need-passed, each-passed, none_first, first-passed, first-append, first-left, first-right}
 use Rattle.march.specs.declared.State.{State}
 use Rattle.march.specs.Checks.{stations_ok, spacing_ok, traverse_checks, traverse_check, places_ok, rows_ok, lent_checks, lent_check, times_ok, points_ok, calms_ok, record_checks, record_check, checks_of}
@@ -35,12 +35,6 @@ or_right a b p e = rw p at e
 or_else : (a b : Bool) → (a ≡ false → b ≡ true) → (a || b) ≡ true
 or_else true b f = refl
 or_else false b f = f refl
-
-unequal : {A : Type 0} → true ≡ false → A
-unequal e = absurd (no_way e)
-  where
-    no_way : true ≡ false → ⊥
-    no_way e = let z : ◌≡◌ {A = ℕ} 0 1 = cc in omega arith
 
 -- 0 and no other number
 zero-only : (x : ℤ) → Between (pos 0) (pos 0) x → x ≡ pos 0

@@ -1,10 +1,9 @@
 -- Demand 1 for the calls of the march. Assumes nothing.
-use mathlib.Core.Path.{◌≡◌, refl, ap}
-use mathlib.Core.Bool.{Bool, true, false, cond}
-use native.Mathlib.Omega.{arith}
-use Prim.Native.Nat.{ℕ}
+use mathlib.Core.Path.{◌≡◌, refl, sym}
+use mathlib.Core.Bool.{true}
 use Rattle.std.specs.Prelude.{Ok, Err}
 use Rattle.records.specs.CheckOrder.{Check, AllPass}
+use Rattle.records.proofs.LimitLaws.{unequal}
 use Rattle.records.proofs.CheckOrderLaws.{first-passed, first-pass, first-fails, all-or-first}
 use Rattle.march.specs.Checks.{traverse_checks, open_of, checks, check_of}
 use Rattle.march.specs.March.{March, stopped, done}
@@ -30,12 +29,9 @@ accepted-exactly g = record {
   stops = λ refusal v e. rw (first-pass (checks g) v, e);
 }
   where
-    never : false ≡ true → ⊥
-    never e = let z : ◌≡◌ {A = ℕ} 0 1 = ap (λ (b : Bool). cond b 1 0) e in omega arith
-
     go : (k : Check) (m : March) → check_of g ≡ k → march_given g ≡ m → is_accepted (after_checks (check_of g) g).answer ≡ true → AllPass (checks g) × Marches g
-    go (Err refusal) m e f a = absurd (never (rw e at a))
-    go (Ok _) (stopped refusal) e f a = absurd (never (rw (e, f) at a))
+    go (Err refusal) m e f a = unequal (sym (rw e at a))
+    go (Ok _) (stopped refusal) e f a = unequal (sym (rw (e, f) at a))
     go (Ok _) (done legs) e f a = (first-passed (checks g) e, record { legs = legs; is = f })
 
 pub demand1 : Demand1

@@ -1,17 +1,17 @@
--- The harbour panel: the limit on points decides whether check 19 passes, and nothing else. Assumes nothing.
+-- The harbour panel: all that is promised of a storm, in any build; and that the limit on points decides whether check 19 passes, and nothing else.
+-- Assumes nothing.
 use mathlib.Core.Path.{◌≡◌, refl, sym, ap, ◌∙◌}
-use mathlib.Core.Bool.{Bool, true, false}
-use native.Mathlib.Omega.{arith}
+use mathlib.Core.Bool.{true, false}
 use Prim.Native.Nat.{ℕ, ◌≤◌, ◌<◌}
 use lib.ListN.{length}
 use Rattle.std.specs.Prelude.{Ok, Err}
 use Rattle.records.specs.declared.Kind.TheVariants.{Points, PanelPoints}
 use Rattle.records.specs.declared.Refusal.{Refusal}
 use Rattle.records.specs.CheckOrder.{Check, Fail, first_of}
-use Rattle.records.specs.Limits.{most_points, panel_points, count_ok, build_has}
+use Rattle.records.specs.Limits.{most_points, panel_points, count_ok}
 use Rattle.records.specs.Refusals.{refusal}
 use Rattle.records.specs.Shapes.{Traverse, count}
-use Rattle.records.proofs.LimitLaws.{counts-in, build-in, build-passes}
+use Rattle.records.proofs.LimitLaws.{unequal, counts-in, build-passes, build-refuses}
 use Rattle.march.specs.Given.{Given}
 use Rattle.march.specs.Checks.{traverse_checks, traverse_check, open_of, check_of}
 use Rattle.march.specs.March.{March, stopped, done}
@@ -23,22 +23,12 @@ use Rattle.march.proofs.Demand3.{sound-step, demand3}
 use Rattle.march.proofs.Lists.{elapsed-is-sum}
 use Rattle.march.proofs.Refused.{everywhere, Holds, Told, open-told, take-told}
 
-apart : true ≡ false → ⊥
-apart e = let z : ◌≡◌ {A = ℕ} 0 1 = cc in omega arith
-
 -- ---- the checks of a traverse
 
 module _ (most : ℕ) (t : Traverse) where
-  past-build : most < count t → build_has most (count t) ≡ false
-  past-build h = by (build_has most (count t)) refl
-    where
-      by : (b : Bool) → build_has most (count t) ≡ b → b ≡ false
-      by true e = let l = build-in most (count t) e in absurd (omega (arith, l, h))
-      by false e = refl
-
   longer-check : count_ok (count t) ≡ true → most < count t → traverse_check most t ≡ Fail (refusal PanelPoints (count t))
   unfolding traverse_checks first_of
-  longer-check e h = rw (e, past-build h)
+  longer-check e h = rw (e, build-refuses most (count t) h)
 
   miscounted-check : count_ok (count t) ≡ false → traverse_check most t ≡ Fail (refusal Points (count t))
   unfolding traverse_checks first_of
@@ -96,11 +86,11 @@ Everywhere r = everywhere r.kind ≡ true
 other-number : (most : ℕ) (t : Traverse) → most ≡ most_points → Holds Everywhere most t
 other-number most t e = record {
   other = λ kind place n l. n;
-  panel = λ five f. absurd (apart (sym (build-passes most (count t) (rw e (counts-in (count t) five).1)) ∙ f));
+  panel = λ five f. unequal (sym (build-passes most (count t) (rw e (counts-in (count t) five).1)) ∙ f);
 }
 
 never : (place : ℕ) → Told Everywhere 19 place → ⊥
-never place x = apart (sym (rw x.number-is at x.has))
+never place x = unequal (sym (rw x.number-is at x.has))
 
 pub panel-only : PanelOnly
 panel-only = record {

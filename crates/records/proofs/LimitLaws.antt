@@ -3,8 +3,8 @@ use mathlib.Core.Path.{◌≡◌, refl, sym, ◌∙◌}
 use mathlib.Core.Bool.{Bool, true, false, ◌&&◌, not}
 use mathlib.Core.List.{[], ◌∷◌}
 use native.Mathlib.Omega.{arith}
-use borrow.Author.Tests.{not-true, leb-true, le-leb}
-use Prim.Native.Nat.{ℕ, ◌≤◌}
+use borrow.Author.Tests.{not-true, leb-true, le-leb, lt-leb}
+use Prim.Native.Nat.{ℕ, ◌≤◌, ◌<◌}
 use lib.Dec.{leb}
 use lib.IntN.{ℤ, pos, neg_ℤ}
 use lib.Signed.{lt_z, le_z, ◌≤ℤ◌, ◌<ℤ◌}
@@ -17,16 +17,19 @@ use Rattle.records.specs.Limits.{inside, range_inside, most_points, count_ok, bu
 
 -- ---- flags
 
+pub unequal : {A : Type 0} → true ≡ false → A
+unequal e = absurd (no_way e)
+  where
+    no_way : true ≡ false → ⊥
+    no_way e = let z : ◌≡◌ {A = ℕ} 0 1 = cc in omega arith
+
 pub and_left : (a b : Bool) → (a && b) ≡ true → a ≡ true
 and_left true b e = refl
 and_left false b e = e
 
 pub and_right : (a b : Bool) → (a && b) ≡ true → b ≡ true
 and_right true b e = e
-and_right false b e = absurd (never e)
-  where
-    never : false ≡ true → ⊥
-    never e = let z : ◌≡◌ {A = ℕ} 0 1 = cc in omega arith
+and_right false b e = unequal (sym e)
 
 pub and_both : (a b : Bool) → a ≡ true → b ≡ true → (a && b) ≡ true
 and_both a b p q = rw (p, q)
@@ -70,6 +73,10 @@ build-in most n e = leb-true n most e
 pub build-passes : (most n : ℕ) → n ≤ most → build_has most n ≡ true
 unfolding build_has
 build-passes most n h = le-leb n most h
+
+pub build-refuses : (most n : ℕ) → most < n → build_has most n ≡ false
+unfolding build_has
+build-refuses most n h = lt-leb n most h
 
 -- ---- a limit
 

@@ -24,10 +24,11 @@ most_points = 65
 unfoldable pub count_ok : ℕ → Bool
 count_ok n = leb 2 n && leb n most_points
 
--- how many a build of the march may have of them: all of these, as our own program, or document 02's harbour panel, "with 16 segments at most"
+-- document 02, Q-5: the harbour panel, a build of the march "with 16 segments at most", so 17 points
 abbrev pub panel_points : ℕ
 panel_points = 17
 
+-- whether a build whose traverses may have `most` points takes so many
 unfoldable pub build_has : ℕ → ℕ → Bool
 build_has most n = leb n most
 
