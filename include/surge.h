@@ -9,6 +9,11 @@
  * A STORM is marched by one call of fennhop_open_traverse, rows set to 0, and then one call of fennhop_take_record for each record
  * in order. A record CLOSES an interval: its winds, tide and deficits are those at the end of its seconds.
  *
+ * THE FLUX that a record leaves in each segment's row is held by the limiting flux of TM-35's errata: it is no larger than c, the water
+ * depth times b / 1,000, where b is the greatest whole number with 225,000 * friction * b * b not above 242 times the size of the cross
+ * sum that the same record leaves in the row. What lies past c becomes c, for each flux and depth in their ranges; a record whose cross
+ * sum is 0 leaves no flux. The first record leaves 0 and is not held.
+ *
  * THE TEXT of a traverse and of a storm, in the form of traverse.txt and storm.txt and held whole by the caller, is read into such
  * numbers by fennhop_read_traverse and fennhop_read_record. No value is judged by its limits there: that is for the two calls above.
  *
@@ -129,7 +134,7 @@
  *       writes                                                                       0
  *    9  a value of the record past its limits                                        point; 0 for seconds, tide, elapsed
  *   10  water depth past 100 to 100,000 (0.01 ft)                                    segment
- *   11  flux past its limits                                                         segment
+ *   11  flux past its limits, though held                                            segment
  *   12  setup past its limits                                                        segment
  *   13  making a record: a pressure, R, the centre or a count past its limits
  *       (place 0); a radius or a wind of the list; x, y or angle of a point          row of the list; point
@@ -175,8 +180,8 @@ extern "C" {
 #endif
 
 /* The version of this header and its library; the number is 10,000 * major + 100 * minor + patch. */
-#define FENNHOP_VERSION "2.1.0"
-#define FENNHOP_VERSION_NUMBER 20100
+#define FENNHOP_VERSION "3.0.0"
+#define FENNHOP_VERSION_NUMBER 30000
 
 /* The most points of a traverse, and the most segments between them; and the same on the panel. */
 #define FENNHOP_MOST_POINTS 65

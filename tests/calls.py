@@ -4,9 +4,9 @@
 #
 #   python3 calls.py DRIVER CASES SEED [--only KIND,KIND..]
 #
-# Before the random records come those of gen/calms.py, whatever the seed, and before
-# the random calls of the harbour panel those of gen/panels.py, each asked of our own
-# program's calls too.
+# Before the random records come those of gen/calms.py and of gen/held.py, whatever the
+# seed, and before the random calls of the harbour panel those of gen/panels.py, each
+# asked of our own program's calls too, and those of gen/held.py, which it takes.
 #
 # THE PROTOCOL. A request is a word and whole decimal numbers, an answer whole
 # decimal numbers, all separated by one space, each line ended by a line feed.
@@ -22,7 +22,11 @@
 # force SECONDS OLD NEW                                LOW HIGH
 #     OLD, NEW: previous and present sum of two cross stresses
 # flux VLOW VHIGH FLOW FHIGH C DLOW DHIGH              LOW HIGH
-#     C: kappa times seconds; D: water depth
+#     the step before the limit; C: kappa times seconds; D: water depth
+# speed FRICTION SUM                                   B
+#     the limiting speed of a sum of two cross stresses
+# held B VLOW VHIGH FLOW FHIGH C DLOW DHIGH            LOW HIGH
+#     the new flux over all choices, held by the limit that B gives in each depth
 # gain X S VLOW VHIGH Y DLOW DHIGH                     LOW HIGH
 #     S: sine of the latitude; Y: sum of two onshore stresses
 # segment FRICTION SINE X DEPTHS LEVEL DEFICITS SECONDS FIRST VLOW VHIGH OLD NEW
@@ -48,8 +52,9 @@
 # Where a COUNT is above 100, nothing follows it, in the answer neither: the call
 # is given so many points or rows, all their numbers 0.
 #
-# force, flux, gain and segment are asked within the limits of document 01 alone;
-# the opening of a traverse and a record with anything.
+# force, flux, gain and segment are asked within the limits of document 01 alone, and so
+# are speed and held, with B from 0 to 16,634; the opening of a traverse and a record
+# with anything.
 
 import argparse
 import collections
@@ -61,14 +66,14 @@ import sys
 import tempfile
 import time
 
-from gen import calms, edges, panels, values
+from gen import calms, edges, held, panels, values
 from gen.run import Run
 from model import forcing, march, ranges
 from model.sine import cosine, sine
 
 KINDS = (
-    "sine", "cosine", "coefficient", "stress", "force", "flux", "gain", "segment", "open", "record",
-    "panel_open", "panel_record",
+    "sine", "cosine", "coefficient", "stress", "force", "flux", "speed", "held", "gain", "segment",
+    "open", "record", "panel_open", "panel_record",
 )
 # A pair of calls: the words of a request, and the most points of a traverse.
 Pair = collections.namedtuple("Pair", "open record most")
@@ -77,6 +82,8 @@ PANEL = Pair("panel_open", "panel_record", march.PANEL_MOST_POINTS)
 SHOWN = 5
 LARGE = (2**31 - 1, 2**31, 2**32, -(2**31) - 1, 2**62, 2**63 - 1, -(2**63))
 SUM = march.CROSS_SUM[1]
+# A limiting speed, up to that of the greatest sum at the least friction.
+SPEED = 0, held.greatest(march.FRICTION[0])
 
 
 def line(*numbers):
@@ -118,10 +125,35 @@ def ask_force(rng):
 
 def ask_flux(rng):
     v = range_in(rng, march.FLUX)
-    force = range_in(rng, (-99_620, 99_620))
+    force = range_in(rng, held.FORCE)
     drag = rng.randint(10, 50) * number_in(rng, march.LATER_SECONDS)
     depth = range_in(rng, march.WATER_DEPTH)
     return line("flux", *v, *force, drag, *depth), line(*ranges.flux_range(v, force, drag, depth))
+
+
+def ask_one_speed(friction, total):
+    return line("speed", friction, total), line(forcing.limiting_speed(friction, total))
+
+
+def ask_speed(rng):
+    total = rng.choice((rng.randint(-SUM, SUM), number_in(rng, march.CROSS_SUM)))
+    return ask_one_speed(rng.randint(*march.FRICTION), total)
+
+
+def ask_one_held(speed, v, force, drag, depth):
+    answer = ranges.held_range(speed, v, force, drag, depth)
+    return line("held", speed, *v, *force, drag, *depth), line(*answer)
+
+
+def held_requests(rng):
+    """In turn a binding that is wanted, numbers near the limit, and any numbers."""
+    for given in held.choices(rng):
+        yield ask_one_held(*given)
+        yield ask_one_held(*held.any_choice(rng))
+        drag = rng.randint(*march.FRICTION) * number_in(rng, march.LATER_SECONDS)
+        v, force = range_in(rng, march.FLUX), range_in(rng, held.FORCE)
+        depth = range_in(rng, march.WATER_DEPTH)
+        yield ask_one_held(number_in(rng, SPEED), v, force, drag, depth)
 
 
 def ask_gain(rng):
@@ -168,14 +200,19 @@ def ask_segment(rng):
 
 
 def near_flux_limit(rng, given):
-    """Deep water and a flux by its limit, where drag and force are small."""
+    """Deep water and a flux by its limit, where drag and force are small, under a wind that
+    lets a flux be as large, or hardly."""
     if given.first:
         return given
     end = rng.choice((-1, 1)) * (1_000_000 - rng.randint(0, 30))
     flux = tuple(sorted((end, rng.choice((end, end // 2)))))
     seconds = rng.randint(1, 5)
     depths = rng.randint(15_000, 19_900)
-    return given._replace(flux=flux, seconds=seconds, depths=depths, level=0, deficits=0)
+    total = rng.choice((-1, 1)) * rng.randint(SUM // 3, SUM)
+    return given._replace(
+        flux=flux, seconds=seconds, depths=depths, level=0, deficits=0,
+        friction=rng.randint(10, 12), new_sum=total,
+    )  # fmt: skip
 
 
 def aimed_setup(rng, given, setup):
@@ -361,13 +398,12 @@ def odd_requests(rng, run, state, rows, places, record, pair):
 
 
 def edge_flux_requests(rng, pair):
-    """Flux at its limit or next to it, from made-up rows."""
+    """Flux at its limit or next to it, from made-up rows, under winds that let it be so large."""
     sign = rng.choice((-1, 1))
     traverse = march.Traverse(rng.choice((0, 900)), 10, 0, ((5, 9900), (0, 9900)))
     end = sign * (1_000_000 - rng.randint(0, 40))
     other = end - sign * rng.choice((0, 1, 1000))
-    wind = rng.randint(0, 900)
-    field = ((wind, values.angle_for(wind, 900 if sign > 0 else 2700), 0),) * 2
+    field = ((rng.randint(1250, 2000), 900 if sign > 0 else 2700, 0),) * 2
     rows = [march.Row(min(end, other), max(end, other), sign * rng.choice((0, SUM)))]
     record = march.Record(rng.randint(1, 4), 0, field)
     state = march.State(rng.randint(0, 10_000), True)
@@ -450,9 +486,9 @@ def forever(ask, rng):
         yield ask(rng)
 
 
-def calm_requests():
-    """A calm that has a direction, alone and beside every other fault."""
-    return (ask_one_record(*call)[:2] for call in calms.calls())
+def record_requests():
+    """A calm that has a direction, alone and beside every other fault; the flux limit."""
+    return (ask_one_record(*call)[:2] for call in itertools.chain(calms.calls(), held.calls()))
 
 
 def storms(rng):
@@ -481,13 +517,19 @@ def requests(kind, count, rng):
     if kind == "stress":
         return ((line("stress", w), line(forcing.stress(w))) for w in range(2001))
     if kind == "record":
-        return itertools.chain(calm_requests(), itertools.islice(storms(rng), count))
+        return itertools.chain(record_requests(), itertools.islice(storms(rng), count))
+    if kind == "speed":
+        fixed = (ask_one_speed(*given) for given in held.sums())
+        return itertools.chain(fixed, itertools.islice(forever(ask_speed, rng), count))
+    if kind == "held":
+        return itertools.islice(held_requests(rng), count)
     if kind == "panel_open":
         opened = forever(lambda rng: ask_open(rng, PANEL), rng)
         return itertools.chain(panel_openings(), itertools.islice(opened, count))
     if kind == "panel_record":
         taken = itertools.islice(panel_storms(rng), count)
-        return itertools.chain(panel_calls(), panel_lists(), taken)
+        limited = (ask_one_record(*call, PANEL)[:2] for call in held.calls())
+        return itertools.chain(panel_calls(), panel_lists(), limited, taken)
     asks = {"force": ask_force, "flux": ask_flux, "gain": ask_gain}
     asks.update({"segment": ask_segment, "open": ask_open})
     return itertools.islice(forever(asks[kind], rng), count)

@@ -21,6 +21,8 @@ int64_t probe_stress(int64_t wind);
 void probe_force(int64_t seconds, int64_t old, int64_t new, int64_t *out, size_t out_count);
 void probe_damped(int64_t c, int64_t v_low, int64_t v_high, int64_t f_low, int64_t f_high, int64_t d_low, int64_t d_high,
                   int64_t *out, size_t out_count);
+int64_t probe_limiting_speed(int64_t friction, int64_t sum);
+void probe_limited(int64_t speed, int64_t low, int64_t high, int64_t d_low, int64_t d_high, int64_t *out, size_t out_count);
 void probe_quotient(int64_t n_low, int64_t n_high, int64_t d_low, int64_t d_high, int64_t *out, size_t out_count);
 
 enum { WRITTEN = 100, ROOM = 4096, WHOLE = 4000, FIRST = 200 };
@@ -439,6 +441,22 @@ static void flux(void)
     write_pair(out);
 }
 
+static void limiting_speed(void)
+{
+    int64_t friction = number(), sum = number();
+    printf("%" PRId64 "\n", probe_limiting_speed(friction, sum));
+}
+
+/* The range of the step before the limit, and then held. */
+static void held(void)
+{
+    int64_t speed = number(), v0 = number(), v1 = number(), f0 = number(), f1 = number(), c = number(), d0 = number(), d1 = number();
+    int64_t free_range[2], out[2];
+    probe_damped(c, v0, v1, f0, f1, d0, d1, free_range, 2);
+    probe_limited(speed, free_range[0], free_range[1], d0, d1, out, 2);
+    write_pair(out);
+}
+
 /* The gain is a quotient of the library; its numerator is formed here, by document 01's step 3. */
 static void gain(void)
 {
@@ -475,6 +493,10 @@ static void request(char *text)
         force();
     else if (!strcmp(word, "flux"))
         flux();
+    else if (!strcmp(word, "speed"))
+        limiting_speed();
+    else if (!strcmp(word, "held"))
+        held();
     else if (!strcmp(word, "gain"))
         gain();
     else if (!strcmp(word, "sine"))

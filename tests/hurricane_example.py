@@ -257,6 +257,9 @@ def published(made):
     yield "printed crest", max((feet, 3600 * hours) for hours, feet in heights.items()), (Fraction("13.41"), 59400)
     here = {Fraction(seconds, 3600): Fraction(nearest(Fraction(low + high, 200)), 100) for seconds, low, high in records(made)}
     yield "times that are none of the listing's", heights.keys() - here.keys(), set()
+    # behind the crest the list's winds are the cards', and the limiting flux of the errata tells
+    far = [hours for hours in heights if hours >= 17 and abs(here[hours] - heights[hours]) > Fraction("0.06")]
+    yield "hours from 17 on with a printed height past 0.06 ft", far, []
     readme = text_of("examples", "hurricane", "README.md").splitlines()
     for name, form, values in (
         ("hours", "%g", {hours: hours for hours in here}), ("printed, ft", "%.2f", heights), ("here, ft", "%.2f", here),

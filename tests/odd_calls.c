@@ -258,6 +258,45 @@ static void accepted(const struct pair *by)
     expect("its answer", answer[0] == 0 && answer[1] == 0 && answer[2] == 0);
 }
 
+/* Rows of fluxes at their limits in each of the most segments, in water of 50 ft, with no turn of the earth. The strongest winds across have
+ * the limiting speed 16,634, which holds each flux at 83,170; with a sum of 0, of faint winds along the axis or of the strongest from both
+ * sides in turn, each flux is 0 at once. In a first record it is 0 whatever the row is. */
+static void held(const struct pair *by)
+{
+    const int64_t sum = INT64_C(2572800000000);
+    const fennhop_row lent[] = {{-1000000, 1000000, 0}, {1000000, 1000000, sum}, {-1000000, -1000000, -sum}, {-1000000, 0, 1}};
+    /* of the last row's high end, nought, the force is left: 13.8, rounded outward */
+    static const int64_t low[] = {-83170, 83170, -83170, -83170}, high[] = {83170, 83170, -83170, 14};
+    const size_t most = by->segments, points_count = 2 * (most + 1), left_out = LONG - (most + 1);
+    for (int kind = 0; kind < 3; kind++)
+        for (int later = 0; later < 2; later++)
+            for (size_t e = 0; e < 4; e++) {
+                int64_t field[3 * LONG];
+                for (size_t i = 0; i <= most; i++) {
+                    field[3 * i] = kind == 1 ? 1 : 2000;
+                    field[3 * i + 1] = kind == 1 ? 0 : kind == 2 && i % 2 ? 2700 : 900;
+                    field[3 * i + 2] = 0;
+                }
+                prepare(most);
+                for (size_t i = 0; i < most; i++)
+                    rows[i] = lent[(i + e) % 4];
+                state[1] = later;
+                keep();
+                uint64_t n = by->take(0, 10, 0, long_points + 2 * left_out, points_count, later, 0, field, 3 * (most + 1), state, 2, rows,
+                                      most, setup, 2 * most, answer, 3);
+                expect("a record on fluxes at their limits", n == 0 && state[0] == later && state[1] == 1);
+                expect("its height", answer[1] == 0 && answer[2] == (kind == 1 ? (int64_t)most : 0));
+                for (size_t i = 0; i < most; i++) {
+                    const size_t k = (i + e) % 4;
+                    if (kind == 0 && later)
+                        expect("a flux that is held", is_row(&rows[i], low[k], high[k], sum));
+                    else
+                        expect("a flux of 0", is_row(&rows[i], 0, 0, kind == 0 ? sum : 0));
+                }
+                expect("what lies beside", same(STATE, 2) && same_rows(most) && same(SETUP, 2 * most) && same(ANSWER, 3));
+            }
+}
+
 /* Any number but 0 says that a first record was accepted, and a refused call leaves it as it is. */
 static void started(const struct pair *by)
 {
@@ -684,6 +723,7 @@ int main(void)
         very_many_rows(by);
         accepted(by);
         started(by);
+        held(by);
         ends(by);
         calms(by);
         late_calm(by);

@@ -105,6 +105,8 @@ CALLS = {
     "stress": lambda n: [forcing.stress(n.one())],
     "force": lambda n: fast.force_range(*n.some(3)),
     "flux": lambda n: fast.flux_range(n.some(2), n.some(2), n.one(), n.some(2)),
+    "speed": lambda n: [fast.limiting_speed(n.one(), n.one())],
+    "held": lambda n: fast.held_range(n.one(), n.some(2), n.some(2), n.one(), n.some(2)),
     "gain": lambda n: fast.gain_range(*n.some(2), n.some(2), n.one(), n.some(2)),
     "segment": segment,
     "open": open_traverse,

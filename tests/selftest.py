@@ -1,11 +1,13 @@
 # Tests of the model and of the generators: document 01's reference runs, the
 # readings of its text, the exact march within every range, ranges against a
 # dense sample of fractions, and the fast path against the fractions; document
-# 02's storm maker, its decks, its calms and its harbour panel by numbers worked out
-# by hand, and its coefficient by those that TM-35 prints.
+# 02's storm maker, its decks, its calms, its harbour panel and its flux limit by
+# numbers worked out by hand, and its coefficient by those that TM-35 prints.
 #
 #   python3 selftest.py        the last line is `N passed, M failed`
 
+import collections
+import contextlib
 import copy
 import itertools
 import math
@@ -16,12 +18,13 @@ import sys
 import time
 import traceback
 from fractions import Fraction
+from types import SimpleNamespace
 from unittest import mock
 
 import calls
 import deck_calls
 import make_calls
-from gen import calms, cases, damage, decks, edges, hurricanes, panels, values
+from gen import calms, cases, damage, decks, edges, held, hurricanes, panels, values
 from model import deck, exact, fast, forcing, hurricane, march, program, ranges, reader, refread
 from model.sine import TABLE, cosine, sine
 
@@ -100,6 +103,7 @@ def test_reference_force():
 
 
 def test_reference_flux():
+    """Of the step before the limit."""
     still = ((1000, 1800, (689, 690)), (-1000, 1800, (-690, -689)), (2500, 1600, (1250, 1250)))
     for v, seconds, want in still:
         same(ranges.flux_range((v, v), (0, 0), 25 * seconds, (1000, 1000)), want)
@@ -141,6 +145,96 @@ def test_mistakes_of_the_trade():
     """The ends of v alone give 27 where 100 is right."""
     ends = [ranges.flux_value(v, 100, 25 * 1600, 100) for v in (-1000, 1000)]
     same(ranges.outward(min(ends), max(ends)), (-22, 27))
+
+
+# The flux limit of document 02, request Q-6, by hand.
+
+SUM = march.CROSS_SUM[1]
+# Friction, sum, b. 225,000 times 25 is 5,625,000; 242 times 572,800,000,000, a wind of
+# 1,000 across at both ends, is 24,643,128.9 times as much, between the squares of 4,964
+# and 4,965. 242 times 9,297 is 2,249,874, and once more 2,250,116. At a b of 11 the two
+# products are equal: 225,000 times 10 times 121 is 272,250,000, 242 times 1,125,000.
+SPEEDS_BY_HAND = (
+    (25, 572_800_000_000, 4964), (10, 9297, 0), (10, 9298, 1), (10, 1_124_999, 10), (10, 1_125_000, 11),
+    (50, 5_624_999, 10), (50, 5_625_000, 11), (10, 0, 0), (50, 0, 0), (10, 1, 0), (50, 46_487, 0),
+    (50, 46_488, 1), (10, SUM, 16_634), (50, SUM, 7439), (10, SUM - 1, 16_634),
+)  # fmt: skip
+
+
+def test_speeds_by_hand():
+    for friction, total, want in SPEEDS_BY_HAND:
+        got = [forcing.limiting_speed(friction, sign * total) for sign in (1, -1)]
+        same((friction, total, got), (friction, total, [want, want]))
+
+
+def searched_speed(friction, total):
+    """The greatest whole number by the document's words, found by halving."""
+    good, bad = 0, 20_000
+    while bad - good > 1:
+        middle = (good + bad) // 2
+        if 225_000 * friction * middle**2 <= 242 * abs(total):
+            good = middle
+        else:
+            bad = middle
+    return good
+
+
+def test_speeds_by_search():
+    """Every threshold of three frictions and the ends of all, and any sum."""
+    rng = random.Random(43)
+    asked = list(held.sums())
+    asked += [(rng.randint(10, 50), rng.randint(-SUM, SUM)) for _ in range(5000)]
+    for friction, total in asked:
+        same(forcing.limiting_speed(friction, total), searched_speed(friction, total))
+    same([held.greatest(friction) for friction in (10, 25, 50)], [16_634, 10_520, 7439])
+    # what a sum has just reached, the one beside it has not
+    counted = 2 * (16_634 + 10_520 + 7439)
+    for pair in zip(asked[:counted:2], asked[1:counted:2]):
+        reached, missed = (searched_speed(*given) for given in pair)
+        same(reached - missed, 1)
+
+
+# Speed, v, F, drag, depth, the held range. In a depth of 1,000 a b of 4,964 has the limit
+# 4,964 itself, in 1,001 it has 4,968.964. Document 01's wide case, whose step before the
+# limit gives -22 to 100, is -21.95 at v = -1,000, 100 at 0 and 26.8 at 1,000, and a b of
+# 500 has the limit 50 there, one of 501 has 50.1. From 100 to 200 of depth the least is
+# -81.8, at v = -1,000 in 200. A b of 250 has the limits 25 and 50 there, one of 251 has
+# 25.1 and 50.2. A b of 10,000 has 1,000 and 5,000 in 100 and 500. With no drag and no force
+# the step before the limit is v itself.
+HELD_BY_HAND = (
+    (4964, (0, 0), (11_089, 11_090), 45_000, (1000, 1000), (4964, 4964)),
+    (4964, (0, 0), (11_089, 11_090), 45_000, (1000, 1001), (4964, 4969)),
+    (4964, (0, 0), (11_089, 11_090), 45_000, (1001, 1001), (4968, 4969)),
+    (4964, (0, 0), (-11_090, -11_089), 45_000, (1001, 1001), (-4969, -4968)),
+    (4964, (0, 0), (-11_090, -11_089), 45_000, (1000, 1001), (-4969, -4964)),
+    (16_634, (1000, 1000), (0, 0), 45_000, (1000, 1000), (689, 690)),
+    (500, (-1000, 1000), (100, 100), 40_000, (100, 100), (-22, 50)),
+    (501, (-1000, 1000), (100, 100), 40_000, (100, 100), (-22, 51)),
+    (1000, (-1000, 1000), (100, 100), 40_000, (100, 100), (-22, 100)),
+    (100, (-1000, 1000), (100, 100), 40_000, (100, 100), (-10, 10)),
+    (1, (-1000, 1000), (100, 100), 40_000, (100, 100), (-1, 1)),
+    (0, (-1000, 1000), (100, 100), 40_000, (100, 100), (0, 0)),
+    (500, (-1000, 1000), (100, 100), 40_000, (100, 200), (-82, 100)),
+    (250, (-1000, 1000), (100, 100), 40_000, (100, 200), (-50, 50)),
+    (251, (-1000, 1000), (100, 100), 40_000, (100, 200), (-51, 51)),
+    (251, (20_000, 20_000), (100, 100), 0, (100, 200), (25, 51)),
+    (251, (-20_000, -20_000), (100, 100), 0, (100, 200), (-51, -25)),
+    (10_000, (10_000, 20_000), (0, 0), 0, (100, 500), (1000, 5000)),
+    (10_000, (-20_000, 20_000), (0, 0), 0, (100, 500), (-5000, 5000)),
+    (10_000, (1500, 1500), (0, 0), 0, (100, 500), (1000, 1500)),
+    (10_000, (-1500, 700), (0, 0), 0, (100, 500), (-1500, 700)),
+    (16_634, (1_000_000, 1_000_000), (0, 0), 0, (60_117, 60_117), (999_986, 999_987)),
+    (16_634, (1_000_000, 1_000_000), (0, 0), 0, (60_118, 60_118), (1_000_000, 1_000_000)),
+)  # fmt: skip
+
+
+def test_held_by_hand():
+    for *given, want in HELD_BY_HAND:
+        same((given, ranges.held_range(*given)), (given, want))
+        same((given, fast.held_range(*given)), (given, want))
+        speed, v, force, drag, depth = given
+        turned = [tuple(-end for end in reversed(pair)) for pair in (v, force, want)]
+        same((given, ranges.held_range(speed, *turned[:2], drag, depth)), (given, turned[2]))
 
 
 # Sine, limits named by document 01.
@@ -200,6 +294,17 @@ def test_flux_outward():
         )
 
 
+def test_held_outward():
+    rng = random.Random(44)
+    for speed, v, force, drag, depth in itertools.islice(held.choices(rng), 900):
+        judge_sample(
+            lambda a, f, d: ranges.held_value(speed, a, f, drag, d),
+            lambda: (fraction_in(rng, v), fraction_in(rng, force), fraction_in(rng, depth)),
+            ranges.held_range(speed, v, force, drag, depth),
+            ranges.held_corners(speed, v, force, drag, depth),
+        )
+
+
 def test_gain_outward():
     rng = random.Random(12)
     for _ in range(1500):
@@ -229,6 +334,22 @@ def test_equal_ends():
     assert equal > 20, equal
 
 
+def test_held_equal_ends():
+    """The same of the held flux: where the limit is one whole number over all choices, and
+    where it does not bind."""
+    rng = random.Random(45)
+    equal = collections.Counter()
+    for k in range(6000):
+        v, force = calls.range_in(rng, (-30, 30)), calls.range_in(rng, (-30, 30))
+        depth = calls.range_in(rng, (100, 130)) if k % 3 else (1000, 1000)
+        speed, drag = rng.choice((0, 3, 17, 200, 16_634)), rng.choice((10, 50_000, 180_000))
+        low, high = ranges.held_range(speed, v, force, drag, depth)
+        corners = set(ranges.held_corners(speed, v, force, drag, depth))
+        same(low == high, corners == {Fraction(low)})
+        equal[any(held.binding(speed, v, force, drag, depth))] += low == high
+    assert min(equal.values()) > 20 and len(equal) == 2, equal
+
+
 def test_floor_and_ceil():
     for n in range(-40, 41):
         for d in range(1, 9):
@@ -243,7 +364,11 @@ def test_fast_formulas():
         v, force = calls.range_in(rng, march.FLUX), calls.range_in(rng, (-99620, 99620))
         depth, total = calls.range_in(rng, march.WATER_DEPTH), calls.number_in(rng, march.CROSS_SUM)
         drag = rng.randint(10, 50) * rng.randint(1, 3600)
-        same(fast.flux_range(v, force, drag, depth), ranges.flux_range(v, force, drag, depth))
+        given = v, force, drag, depth
+        same(fast.flux_range(*given), ranges.flux_range(*given))
+        speed = calls.number_in(rng, calls.SPEED)
+        same(fast.held_range(speed, *given), ranges.held_range(speed, *given))
+        same(fast.limiting_speed(10, total), forcing.limiting_speed(10, total))
         gain = rng.randint(1, 100), sine(rng.randint(0, 900)), v, total, depth
         same(fast.gain_range(*gain), ranges.gain_range(*gain))
         sums = rng.randint(1, 3600), total, rng.randint(*march.CROSS_SUM)
@@ -251,6 +376,11 @@ def test_fast_formulas():
         water = rng.randint(0, 20_000), rng.randint(-3000, 3000), rng.randint(0, 600)
         setup = calls.range_in(rng, march.SETUP)
         same(fast.depth_range(*water, setup), ranges.depth_range(*water, setup))
+
+
+def test_fast_held():
+    for given in itertools.islice(held.choices(random.Random(46)), 2400):
+        same(fast.held_range(*given), ranges.held_range(*given))
 
 
 def test_fast_listings():
@@ -304,7 +434,7 @@ def test_exact_within():
     accepted = later = 0
     for _ in range(400):
         segments, records = rng.choice(((1, 6), (2, 4), (3, 3), (5, 2)))
-        style = rng.choice((values.ordinary, values.extreme, values.shallow_water))
+        style = rng.choice((values.ordinary, values.extreme, values.shallow_water, values.turning_cross))
         count = march_beside(rng, style(rng, segments, records), records)
         accepted += count
         later += max(0, count - 1)
@@ -666,10 +796,10 @@ def test_panel_pairs():
     same(wanted - met, {w for w in wanted if w[1] == 11 and not w[2]})
 
 
-def told_and_left(call, most):
+def told_and_left(call, most=march.MOST_POINTS, formulas=fast):
     """The answer of a call that takes a record, and what it leaves."""
     traverse, state, rows, places, record = map(copy.copy, call)
-    return march.take_record(traverse, state, rows, places, record, fast, most), rows, places
+    return march.take_record(traverse, state, rows, places, record, formulas, most), rows, places
 
 
 def test_panel_calls():
@@ -943,20 +1073,24 @@ def last_ends(run):
 def test_edges_meet_the_limit():
     """The pair is one unit of wind apart; the good one stands at the limit."""
     rng = random.Random(18)
-    for make, number, which in ((edges.flux_edge, 11, 0), (edges.setup_edge, 12, 1)):
+    for make, number, which, least in (
+        (edges.flux_edge, 11, 0, 999_990), (edges.setup_edge, 12, 1, 999_990), (edges.held_edge, 11, 0, 999_000),
+    ):  # fmt: skip
         reached = []
         for _ in range(6):
             good, bad = make(rng)
             same((good.outcome(), bad.outcome().number), (None, number))
             reached.append(last_ends(good)[which])
-        assert reached.count(1_000_000) >= 3 and min(reached) > 999_990, reached
+        # of the last it is the limiting flux, which grows by some 500 from wind to wind
+        full = 0 if make is edges.held_edge else 3
+        assert reached.count(1_000_000) >= full and min(reached) > least, reached
 
 
 class TowardNought:
     """The mistake of dividing toward nought."""
 
-    def flux_range(v, force, drag, depth):
-        corners = ranges.flux_corners(v, force, drag, depth)
+    def held_range(*given):
+        corners = ranges.held_corners(*given)
         return math.trunc(min(corners)), math.trunc(max(corners))
 
     def gain_range(*given):
@@ -967,8 +1101,8 @@ class TowardNought:
 class OneDepth:
     """The deeper end of the depth for both ends of the flux."""
 
-    def flux_range(v, force, drag, depth):
-        return ranges.flux_range(v, force, drag, (depth[1], depth[1]))
+    def held_range(speed, v, force, drag, depth):
+        return ranges.held_range(speed, v, force, drag, (depth[1], depth[1]))
 
 
 class ShallowGain:
@@ -1002,6 +1136,15 @@ class NearestDepth:
 
 
 MISTAKES = (TowardNought, OneDepth, ShallowGain, WiderForce, HalfForce, NearestDepth)
+FORMULAS = "depth_range", "force_range", "limiting_speed", "held_range", "gain_range"
+
+
+def whole(mistake):
+    """The formulas with this mistake, all others right."""
+    for name in FORMULAS:
+        if not hasattr(mistake, name):
+            setattr(mistake, name, getattr(march.Fractions, name))
+    return mistake
 
 
 def test_mistakes_are_noticed():
@@ -1010,13 +1153,348 @@ def test_mistakes_are_noticed():
     texts = [(r.traverse_text(), r.storm_text()) for r in (values.sound(rng) for _ in range(150))]
     right = [program.listing(*pair) for pair in texts]
     for mistake in MISTAKES:
-        for name in ("depth_range", "force_range", "flux_range", "gain_range"):
-            if not hasattr(mistake, name):
-                setattr(mistake, name, getattr(march.Fractions, name))
-        wrong = [program.listing(*pair, mistake) for pair in texts]
+        wrong = [program.listing(*pair, whole(mistake)) for pair in texts]
         noticed = sum(a != b for a, b in zip(right, wrong))
         print("  %-14s noticed in %d of %d storms" % (mistake.__name__, noticed, len(texts)))
         assert noticed > 5
+
+
+# The flux limit: that the generated cases show it, and mistakes in it.
+
+
+def count_steps(asked):
+    """Of the segments of these calls: which ends the limit binds, the sign of the sum, small
+    limiting speeds, nought inside the range of v, water depths with ends far apart."""
+    met = collections.Counter()
+    for call in asked:
+        for given, total in zip(*held.steps_of(call)):
+            met["bound", held.binding(*given)] += 1
+            met["sum", (total > 0) - (total < 0)] += 1
+            met["speed", min(given[0], 3)] += 1
+            met["v = 0", held.at_nought(*given)] += 1
+            met["depths far apart"] += 2 * given[4][1] > 3 * given[4][0]
+    return met
+
+
+def test_held_calls_show_the_limit():
+    met = count_steps(held.random_calls(240))
+    print("  segments of 240 records on lent rows:", dict(met))
+    steps = sum(count for key, count in met.items() if key[0] == "bound")
+    shares = {key: count / steps for key, count in met.items()}
+    assert all(shares["bound", ends] > 0.05 for ends in held.BINDINGS), shares
+    assert all(shares["sum", sign] > 0.1 for sign in (-1, 0, 1)), shares
+    assert all(met["speed", speed] >= 20 for speed in (0, 1, 2, 3)), met
+    assert all(met["v = 0", place] > 50 for place in ("outside", "inside", "extreme")), met
+    assert met["depths far apart"] > 50, met
+
+
+def calls_of_storm(run):
+    """The later records of a run as calls."""
+    traverse, state = run.traverse(), march.State(0, False)
+    rows = march.fresh_rows(traverse)
+    for record in run.record_list():
+        if state.accepted:
+            yield traverse, state, list(rows), [], record
+        answer = march.take_record(traverse, state, rows, [], record, fast)
+        if isinstance(answer, march.Refusal):
+            return
+        state = answer.state
+
+
+def test_storms_show_the_limit():
+    """Of storms from fresh rows, whose ranges are narrow."""
+    rng = random.Random(47)
+    met = collections.Counter()
+    for _ in range(150):
+        met += count_steps(calls_of_storm(values.turning_cross(rng)))
+    print("  segments of 150 storms:", dict(met))
+    assert all(met["bound", ends] > 80 for ends in held.BINDINGS), met
+    assert all(met["sum", sign] > 500 for sign in (-1, 0, 1)), met
+
+
+def test_held_choices():
+    """Each binding in turn with each place of v = 0."""
+    some = itertools.islice(held.choices(random.Random(48)), 1200)
+    met = collections.Counter((held.binding(*given), held.at_nought(*given)) for given in some)
+    same((len(met), set(met.values())), (12, {100}))
+
+
+def test_held_thresholds():
+    """Sums of two ends that have just reached a speed, and just not: of the 15 reached, and of
+    those not, most are the threshold itself and the number below it."""
+    exact_ones = 0
+    for friction, speed in held.THRESHOLDS:
+        least = held.threshold(friction, speed)
+        for total, way in ((least, 1), (least - 1, -1)):
+            got = sum(forcing.cross(*end) for end in held.ends_near(total, way))
+            same((speed, forcing.limiting_speed(friction, got)), (speed, speed if way > 0 else speed - 1))
+            assert 0 <= way * (got - total) < 20, (friction, speed, got - total)
+            exact_ones += got == total
+    assert exact_ones > 20, exact_ones
+    for call in held.threshold_calls():
+        same(held.accepted(call), True)
+
+
+def test_held_limit_pairs():
+    """Refusal 11 by the limiting flux: one unit of the water depth apart, with a flux that is
+    past its limits on both sides before it is held."""
+    count = 0
+    for good, bad, place in held.limit_pairs():
+        same(held.accepted(good), True)
+        same(told_and_left(bad)[0], march.Refusal(11, place))
+        for call in (good, bad):
+            given = held.steps_of(call)[0][place - 1]
+            free = fast.flux_range(*given[1:])
+            assert max(abs(end) for end in free) > 1_000_000
+            same(given[4][0], given[4][1])
+        count += 1
+    same(count, 196)
+    kinds = collections.Counter()
+    for call in held.far_held_calls():
+        same(held.accepted(call), True)
+        (speed, *given) = held.steps_of(call)[0][0]
+        free, limit = fast.flux_range(*given), speed * given[3][0] // 1000
+        kinds[max(map(abs, free)) > 1_000_000, limit > 1_000_000] += 1
+    same(kinds, {(True, False): 12, (False, True): 6})
+
+
+def test_held_calls_on_the_panel():
+    for call in held.calls():
+        assert len(call[0].points) <= PANEL
+    for call in held.random_calls(40):
+        same(*(told_and_left(call, most) for most in LIMITS))
+
+
+# What each does in place of the step, the speed, or the work on a segment.
+
+
+def held_by(limit_of, value=ranges.flux_value, choices=ranges.flux_choices):
+    """The held range with another limit (of speed, a depth and the depth's range)."""
+
+    def mistake(speed, v, force, drag, depth):
+        corners = [
+            ranges.held(value(a, f, drag, d), limit_of(speed, d, depth)) for a, f, d in choices(v, force, depth)
+        ]
+        return ranges.outward(min(corners), max(corners))
+
+    return mistake
+
+
+def right_limit(speed, d, depth):
+    return ranges.limiting_flux(speed, d)
+
+
+def limit_by(change):
+    return held_by(lambda speed, d, depth: change(ranges.limiting_flux(speed, d)))
+
+
+def limit_in(depth_of):
+    return held_by(lambda speed, d, depth: ranges.limiting_flux(speed, depth_of(depth)))
+
+
+def ends_alone(v, force, depth):
+    return itertools.product(set(v), set(force), set(depth))
+
+
+def to_nearest(fraction):
+    return ranges.floor(fraction + Fraction(1, 2))
+
+
+def force_free_at_nought(speed, v, force, drag, depth):
+    """Document 01's corner at v = 0, which is F itself."""
+    low, high = held_by(right_limit, choices=ends_alone)(speed, v, force, drag, depth)
+    return (min(low, force[0]), max(high, force[1])) if v[0] <= 0 <= v[1] else (low, high)
+
+
+def upper_end_alone(speed, *given):
+    low, high = ranges.flux_range(*given)
+    limit = ranges.limiting_flux(speed, given[3][1])
+    return min(low, ranges.floor(limit)), min(high, ranges.ceil(limit))
+
+
+def old_flux_held(speed, v, force, drag, depth):
+    """v in place of the new flux."""
+    limit = ranges.floor(ranges.limiting_flux(speed, depth[1]))
+    return ranges.flux_range(tuple(ranges.held(end, limit) for end in v), force, drag, depth)
+
+
+def set_to_nought(speed, *given):
+    """An end that is past the limit becomes 0."""
+    free, right = ranges.flux_range(*given), ranges.held_range(speed, *given)
+    return tuple(sorted(end if end == other else 0 for end, other in zip(free, right)))
+
+
+def free_step(speed, *given):
+    return fast.flux_range(*given)
+
+
+def root_of(friction, total, by=242):
+    return Fraction(by * abs(total), 225_000 * friction)
+
+
+def with_sum(pick):
+    """The limit by another sum, the force by the right ones."""
+
+    def mistake(given, setup, formulas, right=march.work_segment):
+        old, new = given.old_sum, given.new_sum
+        return right(given._replace(new_sum=pick(old, new), old_sum=old + new - pick(old, new)), setup, formulas)
+
+    return mistake
+
+
+def unheld(formulas):
+    return SimpleNamespace(**{**vars(formulas), "held_range": free_step})
+
+
+def row_alone(given, setup, formulas, right=march.work_segment):
+    """Gain and 12 by the flux before the limit."""
+    answer, free = right(given, setup, formulas), right(given, setup, unheld(formulas))
+    if isinstance(answer, int) or isinstance(free, int):
+        return answer if answer in (10, 11) else free if free == 12 else answer
+    return answer[0], free[1]
+
+
+def gain_alone(given, setup, formulas, right=march.work_segment):
+    """The row keeps the flux before the limit."""
+    answer, free = right(given, setup, formulas), right(given, setup, unheld(formulas))
+    if isinstance(answer, int) or isinstance(free, int):
+        return answer
+    return free[0], answer[1]
+
+
+def judged_before(given, setup, formulas, right=march.work_segment):
+    """11 by the flux before the limit."""
+    return 11 if right(given, setup, unheld(formulas)) == 11 else right(given, setup, formulas)
+
+
+def first_rows_held(traverse, state, rows, record, right=march.segments_of):
+    """A first record that holds the fluxes of its rows. To hold the 0 of a fresh row is no
+    mistake: it is within every limit."""
+    for given in right(traverse, march.State(0, True), rows, record):
+        if not state.accepted:
+            limit = fast.limiting_speed(given.friction, given.new_sum) * given.depths * 5 // 1000
+            flux = tuple(ranges.held(end, limit) for end in given.flux)
+            given = given._replace(seconds=1, flux=flux, old_sum=-given.new_sum)
+        yield given
+
+
+def formula(name):
+    return lambda mistake: (SimpleNamespace(**{**vars(fast), name: mistake}), {})
+
+
+def patched(name):
+    return lambda mistake: (fast, {name: mistake})
+
+
+RANGE, ROOT, WORK = formula("held_range"), formula("limiting_speed"), patched("work_segment")
+HUGE = 10**9
+HELD_MISTAKES = (
+    ("no limit", RANGE, free_step),
+    ("c of the deep end", RANGE, limit_in(lambda depth: depth[1])),
+    ("c of the shallow end", RANGE, limit_in(lambda depth: depth[0])),
+    ("c of the middle depth", RANGE, limit_in(lambda depth: Fraction(sum(depth), 2))),
+    ("c rounded down", RANGE, limit_by(ranges.floor)),
+    ("c rounded up", RANGE, limit_by(ranges.ceil)),
+    ("c rounded to the nearest", RANGE, limit_by(to_nearest)),
+    ("feet of depth rounded first", RANGE, held_by(lambda b, d, _: b * (d // 1000))),
+    ("the ends of v alone", RANGE, held_by(right_limit, choices=ends_alone)),
+    ("F itself at v = 0", RANGE, force_free_at_nought),
+    ("the nearest flux held", RANGE, held_by(right_limit, value=lambda *g: to_nearest(ranges.flux_value(*g)))),
+    ("held from above alone", RANGE, upper_end_alone),
+    ("the old flux held", RANGE, old_flux_held),
+    ("0 where it is past", RANGE, set_to_nought),
+    ("no limit for a sum of 0", ROOT, lambda k, t: fast.limiting_speed(k, t) if t else HUGE),
+    ("no limit below 0", ROOT, lambda k, t: fast.limiting_speed(k, t) if t >= 0 else HUGE),
+    ("b is 0 below 0", ROOT, lambda k, t: fast.limiting_speed(k, max(0, t))),
+    ("b rounded up", ROOT, lambda k, t: math.isqrt(ranges.ceil(root_of(k, t)) - 1) + 1 if t else 0),
+    ("b to the nearest", ROOT, lambda k, t: (math.isqrt(ranges.floor(4 * root_of(k, t))) + 1) // 2),
+    ("b below, never at", ROOT, lambda k, t: math.isqrt(max(0, ranges.ceil(root_of(k, t)) - 1))),
+    ("no friction in b", ROOT, lambda k, t: fast.limiting_speed(1, t)),
+    ("a friction of 25 in b", ROOT, lambda k, t: fast.limiting_speed(25, t)),
+    ("121 for 242", ROOT, lambda k, t: math.isqrt(ranges.floor(root_of(k, t, 121)))),
+    ("Z for the sum", WORK, with_sum(lambda old, new: old + new)),
+    ("half of Z", WORK, with_sum(lambda old, new: (old + new) // 2)),
+    ("the old sum", WORK, with_sum(lambda old, new: old)),
+    ("the row held, not the gain", WORK, row_alone),
+    ("the gain held, not the row", WORK, gain_alone),
+    ("11 before it is held", WORK, judged_before),
+    ("a first record's rows held", patched("segments_of"), first_rows_held),
+)  # fmt: skip
+# What storms from fresh rows hardly show: sums at which the two products are just equal; and
+# what they cannot: a first record on other rows.
+CALLS_ALONE = "b below, never at", "a first record's rows held"
+
+
+def some_held_calls():
+    some = [held.random_calls(35), held.first_calls(8), held.threshold_calls(), held.far_held_calls()]
+    some += [itertools.islice(held.strongest_calls(), 0, None, 17), itertools.islice(held.limit_calls(), 0, 392, 27)]
+    return list(itertools.chain(*some))
+
+
+def held_outcomes(asked, texts, formulas=fast):
+    found = [told_and_left(call, formulas=formulas) for call in asked]
+    return found, [program.listing(*pair, formulas) for pair in texts]
+
+
+def test_held_mistakes_are_noticed():
+    rng = random.Random(49)
+    styles = values.turning_cross, values.turning_cross, values.ordinary, values.near_nought
+    runs = [styles[k % 4](rng, *((1, 8) if k % 4 < 2 else ())) for k in range(100)]
+    runs += [edges.inner_extreme(rng) for _ in range(8)] + [edges.held_edge(rng)[0] for _ in range(5)]
+    given = some_held_calls(), [(run.traverse_text(), run.storm_text()) for run in runs]
+    right = held_outcomes(*given)
+    for label, kind, mistake in HELD_MISTAKES:
+        formulas, patches = kind(mistake)
+        with contextlib.ExitStack() as stack:
+            for name, wrong_one in patches.items():
+                stack.enter_context(mock.patch.object(march, name, wrong_one))
+            wrong = held_outcomes(*given, formulas)
+        noticed = [sum(a != b for a, b in zip(*both)) for both in zip(wrong, right)]
+        shown = (label, noticed[0], len(right[0]), noticed[1], len(right[1]))
+        print("  %-28s noticed in %3d of %d calls, %3d of %d storms" % shown)
+        assert noticed[0] > 3 and (noticed[1] > 3 or label in CALLS_ALONE), label
+
+
+def only_exact(module, **changes):
+    """A module of the model as the exact march alone sees it."""
+    return mock.patch.object(exact, module.__name__.split(".")[-1], SimpleNamespace(**{**vars(module), **changes}))
+
+
+# A c that is off by less than one unit, as a rounded one, stays within a flux range.
+EXACT_MISTAKES = (
+    ("not held", ranges, "held_value", lambda b, *given: ranges.flux_value(*given)),
+    ("held from above alone", ranges, "held_value", lambda b, *g: min(ranges.flux_value(*g), b * g[3] / 1000)),
+    ("c of half the depth", ranges, "held_value", lambda b, *g: ranges.held(ranges.flux_value(*g), b * g[3] / 2000)),
+    ("b is 0 below 0", forcing, "limiting_speed", lambda k, t: forcing.limiting_speed(k, max(0, t))),
+    ("no limit for a sum of 0", forcing, "limiting_speed", lambda k, t: forcing.limiting_speed(k, t) if t else HUGE),
+    ("no friction in b", forcing, "limiting_speed", lambda k, t: forcing.limiting_speed(1, t)),
+    ("b one more", forcing, "limiting_speed", lambda k, t: 1 + forcing.limiting_speed(k, t)),
+)
+
+
+def height_leaves(run):
+    """Whether an exact height lies outside of its range, of a run that is accepted."""
+    traverse = run.traverse()
+    state, rows, unrounded = march.State(0, False), march.fresh_rows(traverse), exact.ExactMarch(traverse)
+    for record in run.record_list():
+        answer = march.take_record(traverse, state, rows, [], record, fast)
+        if not within(unrounded.take(record, True).height, (answer.low, answer.high)):
+            return True
+        state = answer.state
+    return False
+
+
+def test_exact_mistakes_are_noticed():
+    """An exact march that is held otherwise leaves the ranges: a flux, a setup or a height."""
+    rng = random.Random(50)
+    runs = [values.turning_cross(rng, rng.choice((1, 2)), 4) for _ in range(60)]
+    same([run.outcome() for run in runs], [None] * 60)
+    for label, module, name, mistake in EXACT_MISTAKES:
+        with only_exact(module, **{name: mistake}):
+            noticed = sum(one_fails(lambda: march_beside(random.Random(51), run, 4)) for run in runs)
+            heights = sum(map(height_leaves, runs))
+        print("  %-28s noticed in %2d of 60 storms, by a height in %2d" % (label, noticed, heights))
+        assert noticed > 5 and heights > 1, label
 
 
 def test_inner_extreme():

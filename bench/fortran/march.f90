@@ -1,5 +1,6 @@
-! The same march in double precision, as a Fortran model would do it: document 01's formulas on real numbers, no ranges, no checks. Sines come
-! from a table of all tenths of a degree, filled once and rounded to whole numbers as document 01's table is. Units are document 01's.
+! The same march in double precision, as a Fortran model would do it: document 01's formulas on real numbers and the flux limit of document 02, no
+! ranges, no checks. Sines come from a table of all tenths of a degree, filled once and rounded to whole numbers as document 01's table is, and the b
+! of the limit is a whole number too. Units are document 01's.
 module plain_march
   use, intrinsic :: iso_c_binding, only: c_int64_t, c_double
   implicit none
@@ -29,7 +30,7 @@ contains
     integer(c_int64_t), intent(in) :: points(2, n + 1), storm(3, n + 1)
     real(c_double), intent(inout) :: v(n), kept(n)
     real(c_double) :: height
-    real(c_double) :: s, level, depth, force, gain, setup, sum, q, cross(most), onshore(most), d2
+    real(c_double) :: s, level, depth, force, gain, setup, sum, q, cross(most), onshore(most), d2, limit
     integer :: i
 
     do i = 1, int(n) + 1
@@ -47,6 +48,8 @@ contains
         force = seconds * (kept(i) + sum) * 121d0 / 22500000000000d0
         d2 = 100d0 * depth * depth
         v(i) = (v(i) + force) * d2 / (d2 + friction * seconds * abs(v(i)))
+        limit = aint(sqrt(242d0 * abs(sum) / (225000d0 * friction))) * depth / 1000d0
+        v(i) = max(-limit, min(limit, v(i)))
       end if
       kept(i) = sum
       gain = (points(1, i) - points(1, i + 1)) * (2748816d0 * s * v(i) + 2030d0 * (onshore(i) + onshore(i + 1))) / (1d9 * depth)

@@ -7,8 +7,8 @@ module surge
   implicit none
 
   ! The version of the header and its library; the number is 10,000 * major + 100 * minor + patch.
-  character(*), parameter :: fennhop_version = '2.1.0'
-  integer, parameter :: fennhop_version_number = 20100
+  character(*), parameter :: fennhop_version = '3.0.0'
+  integer, parameter :: fennhop_version_number = 30000
 
   ! The most points of a traverse, and the most segments between them; and the same on the panel.
   integer(c_size_t), parameter :: fennhop_most_points = 65

@@ -171,8 +171,8 @@ def text_cases():
 
 
 def value_cases(rng):
-    """Limits from both sides, a calm's direction beside each other fault, and the
-    edges of flux and setup."""
+    """Limits from both sides, a calm's direction beside each other fault, the edges of
+    flux and setup, and the flux limit."""
     for label, run in calms.file_runs(rng):
         yield of_run(label, run)
     for run in values.limit_runs(rng):
@@ -180,11 +180,13 @@ def value_cases(rng):
     for run in values.step_runs(rng):
         yield of_run("limits", run)
     for _ in range(6):
-        for run in edges.setup_edge(rng) + edges.flux_edge(rng):
+        for run in edges.setup_edge(rng) + edges.flux_edge(rng) + edges.held_edge(rng):
             yield of_run("edges", run)
     for _ in range(12):
         yield of_run("edges", values.calm_edge(rng))
         yield of_run("inner extreme", edges.inner_extreme(rng))
+    for _ in range(60):
+        yield of_run("flux limit", values.turning_cross(rng))
 
 
 def wind_runs():

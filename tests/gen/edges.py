@@ -1,6 +1,7 @@
 # Pairs of runs on both sides of the setup limit and of the flux limit, one
 # unit of one wind apart, so that the range's end stands at the limit itself;
-# and runs whose listing needs the flux at v = 0.
+# pairs of which the limiting flux is past it in one; and runs whose listing
+# needs the flux at v = 0.
 
 from model import fast, program
 
@@ -47,20 +48,39 @@ def grown_run(rng, way):
     return run
 
 
-def flux_edge(rng):
-    way = rng.choice((900, 2700))
+def grown_to_limit(rng, way):
+    """A run whose last record is as long as the flux limit lets it be."""
     while True:
         run = grown_run(rng, way)
-        if run is None:
-            continue
-        last = split_at(run, (run.records[-1], 0), 1, 3600)[0]
-        last.records[-1][0] = max(1, last.records[-1][0] - rng.randint(3, 12))
-        # no calm, since it has an angle
-        last.records.append(deep_record(20, 1, way))
+        if run is not None:
+            return split_at(run, (run.records[-1], 0), 1, 3600)[0]
+
+
+def flux_edge(rng):
+    """The outer point's wind alone lets the limiting flux be above 1,000,000, so that
+    what stands at the limit is the flux before it is held."""
+    way = rng.choice((900, 2700))
+    while True:
+        last = grown_to_limit(rng, way)
+        last.records[-1][0] = max(1, last.records[-1][0] - rng.randint(13, 18))
+        last.records.append(deep_record(20, 2000, way))
         place = (last.records[-1][3], 0)
-        refusal = outcome_with(last, place, 2000)
-        if last.outcome() is None and refusal is not None:
+        near, far = (outcome_with(last, place, wind) for wind in (1, 2000))
+        if near is None and far is not None:
             return split_at(last, place, 1, 2000)
+
+
+def held_edge(rng):
+    """A flux that is past 1,000,000 before it is held: the limiting flux is at most that
+    for the weaker of two winds, and past it for the stronger."""
+    way = rng.choice((900, 2700))
+    while True:
+        last = grown_to_limit(rng, way)
+        last.records.append(deep_record(rng.randint(60, 600), 1200, way))
+        place = (last.records[-1][3], 0)
+        near, far = (outcome_with(last, place, wind) for wind in (1000, 2000))
+        if near is None and far is not None:
+            return split_at(last, place, 1000, 2000)
 
 
 class EndsOnly:
@@ -68,11 +88,12 @@ class EndsOnly:
 
     depth_range = staticmethod(fast.depth_range)
     force_range = staticmethod(fast.force_range)
+    limiting_speed = staticmethod(fast.limiting_speed)
     gain_range = staticmethod(fast.gain_range)
 
     @staticmethod
-    def flux_range(v, force, drag, depth):
-        ends = [fast.flux_range((a, a), force, drag, depth) for a in v]
+    def held_range(speed, v, force, drag, depth):
+        ends = [fast.held_range(speed, (a, a), force, drag, depth) for a in v]
         return min(low for low, _ in ends), max(high for _, high in ends)
 
 

@@ -182,7 +182,7 @@ def calls():
 
 # Storms.
 
-STYLES = values.ordinary, values.extreme, values.deep_water, values.shallow_water
+STYLES = values.ordinary, values.extreme, values.deep_water, values.shallow_water, values.turning_cross
 # Segments of a random run, most of them next to a limit.
 SEGMENTS = 1, 2, 15, 15, 16, 16, 16, 17, 17, 63, 64
 

@@ -1,7 +1,8 @@
-# Runs whose text is sound: ordinary and extreme storms, storms with calms, runs at
-# the edge of a limit, runs with faults in their values (refusals 5 to 12 and 18).
+# Runs whose text is sound: ordinary and extreme storms, storms with calms, storms
+# whose fluxes come to their limit, runs at the edge of a limit, runs with faults in
+# their values (refusals 5 to 12 and 18).
 
-from model import march
+from model import fast, forcing, march
 
 from .run import Run
 
@@ -131,20 +132,81 @@ def shallow_water(rng, segments=None, records=None):
     return Run(rng.choice((0, 450, 900)), rng.randint(10, 50), 0, points, rows)
 
 
+def seconds_to_limit(rng, run, field, damping):
+    """A step in which the damping of the limiting flux c, drag times c over the square of
+    the depth, is so much at some segment. At 2 a flux from nought comes to its limit."""
+    place = rng.randrange(len(run.points) - 1)
+    total = sum(forcing.cross(wind, angle) for wind, angle, _ in field[place : place + 2])
+    speed = fast.limiting_speed(run.head[1], total)
+    depth = 5 * (run.points[place][1] + run.points[place + 1][1])
+    wanted = damping * 100_000 * depth / (run.head[1] * max(1, speed))
+    return max(1, min(3600, int(wanted)))
+
+
+def next_wind(rng, wind, way):
+    """Another wind across: less or more, from the other side, faint, along or none."""
+    kind = rng.random()
+    if kind < 0.3:
+        return int(wind * rng.uniform(0.1, 0.8)), way
+    if kind < 0.5:
+        return rng.randint(300, 1300), way
+    if kind < 0.7:
+        return wind, (way + 1800) % 3600
+    if kind < 0.8:
+        return rng.randint(1, 12), rng.choice((way, rng.randrange(3600)))
+    return (0, 0) if kind < 0.85 else (min(wind, 500), rng.choice((0, 1800)))
+
+
+def field_of(rng, count, wind, way):
+    spread = 0 if way in (0, 1800) else rng.choice((0, 0, 60))
+    field = []
+    for _ in range(count):
+        here = min(2000, int(wind * rng.uniform(0.9, 1.1)))
+        field.append([here, angle_for(here, (way + rng.randint(-spread, spread)) % 3600), 0])
+    return field
+
+
+def turning_cross(rng, segments=None, records=None):
+    """A wind across that holds for a while, then drops, turns round, comes along the axis or
+    stops: fluxes that come to their limit from below, where it binds one end before the
+    other, that a lower limit cuts, and that are 0 at once."""
+    segments = segments or rng.choice((1, 1, 2, 3, 5, 8))
+    records = records or rng.randint(4, 14)
+    points = sloping_points(rng, segments, rng.choice((10, 40, 100)))
+    run = Run(rng.choice((300, 450, 900)), rng.randint(10, 50), 0, points, [])
+    wind, way = rng.randint(200, 1200), rng.choice((900, 2700))
+    field = field_of(rng, segments + 1, wind, way)
+    # the flux goes to its limit in some steps
+    step = seconds_to_limit(rng, run, field, rng.uniform(0.1, 1.2))
+    tide = rng.choice((0, 0, 20))
+    for k in range(records):
+        run.records.append([step if k else 0, rng.randint(-tide, tide)] + [list(point) for point in field])
+        if rng.random() < 0.3:
+            wind, way = next_wind(rng, wind or rng.randint(200, 1200), way if wind else rng.choice((900, 2700)))
+            field = field_of(rng, segments + 1, wind, way)
+    return run
+
+
 def near_nought(rng):
-    """Shallow water, faint cross winds from both sides until the flux range
-    holds nought inside, then strong ones: v = 0 gives the range's end there."""
+    """Shallow water, faint cross winds from both sides until the flux range holds
+    nought inside, then strong ones: v = 0 gives the range's end there, where the step
+    is long enough to damp the ends of v and too short to hold the flux of each."""
     segments = rng.choice((1, 1, 2, 4))
     points = [[d, rng.randint(12, 60)] for d in distances(rng, segments, 20)]
-    faint = rng.randint(1, 6)
-    rows = []
+    run = Run(rng.choice((100, 450, 900)), rng.randint(10, 50), 0, points, [])
+    faint = rng.randint(1, 8)
+    way = rng.choice((900, 2700))
     for k in range(faint + rng.randint(1, 3)):
         strongest = 60 if k < faint else rng.randint(600, 2000)
-        way = rng.choice((900, 2700))
+        # a force below one unit to one side and the other widens the range on both
+        way = 3600 - way if rng.random() < 0.75 else way
         winds = [rng.randint(0, strongest) for _ in range(segments + 1)]
         field = [[wind, angle_for(wind, way), 0] for wind in winds]
-        rows.append([rng.choice((60, 900, 3600)) if k else 0, 0] + field)
-    return Run(rng.choice((100, 450, 900)), rng.randint(10, 50), 0, points, rows)
+        seconds = rng.choice((60, 60, 60, 900, 3600)) if k else 0
+        if k >= faint and rng.random() < 0.7:
+            seconds = seconds_to_limit(rng, run, field, rng.uniform(1.3, 2.4))
+        run.records.append([seconds, 0] + field)
+    return run
 
 
 def calm_edge(rng):
@@ -177,6 +239,7 @@ STYLES = (
     (deep_water, 12),
     (near_nought, 12),
     (with_calms, 12),
+    (turning_cross, 30),
     (calm_edge, 3),
 )
 

@@ -1,4 +1,5 @@
-# The exact march of document 01: fractions, never rounded. It is fed the
+# The exact march of document 01: fractions, never rounded; its flux is held by
+# the limit of document 02, request Q-6, "in the exact march alike". It is fed the
 # traverse, the records and whether each was accepted, and nothing else.
 # Fractions grow without bound: keep to few segments and few records.
 
@@ -41,7 +42,8 @@ class ExactMarch:
             if self.first_accepted:
                 force = forcing.force(record.seconds, self.sums[i], total)
                 drag = traverse.friction * record.seconds
-                v = ranges.flux_value(v, force, drag, depth)
+                speed = forcing.limiting_speed(traverse.friction, total)
+                v = ranges.held_value(speed, v, force, drag, depth)
             onshore = sum(forcing.onshore(wind, angle) for wind, angle, _ in ends)
             setup += ranges.gain_value(
                 outer - inner, sine(traverse.latitude), v, onshore, depth

@@ -1,7 +1,10 @@
 # A second, faster path for the ranges in plain whole numbers, for long storms
 # only. It has the names of ranges.py and forcing.py that the march calls;
 # selftest.py compares it with them on many random cases. Least of the floors
-# and greatest of the ceilings are those of the least and greatest fraction.
+# and greatest of the ceilings are those of the least and greatest fraction; a
+# floor of the lesser of two is the lesser of their floors.
+
+from .forcing import limiting_speed
 
 
 def outward_div(low, high, divisor):
@@ -18,26 +21,35 @@ def force_range(seconds, old_sum, new_sum):
     return outward_div(value, value, 22_500_000_000_000)
 
 
-def flux_range(v, force, drag, depth):
+def held_range(speed, v, force, drag, depth):
+    """Where v + F is not negative the held flux is the lesser of two that do not fall
+    with the depth, else the greater of two that do not rise: that tells its depth."""
     v_low, v_high = v
     f_low, f_high = force
     shallow = 100 * depth[0] * depth[0]
     deep = 100 * depth[1] * depth[1]
-    places = (v_low,) if v_low == v_high else (v_low, v_high)
+    least_limit = speed * depth[0] // 1000
+    greatest_limit = -(-speed * depth[1] // 1000)
     lows = []
     highs = []
-    for a in places:
+    for a in {v_low, v_high, 0} if v_low < 0 < v_high else {v_low, v_high}:
         resistance = drag * abs(a)
         least = a + f_low
-        square = shallow if least >= 0 else deep
-        lows.append(least * square // (square + resistance))
+        if least >= 0:
+            lows.append(min(least_limit, least * shallow // (shallow + resistance)))
+        else:
+            lows.append(max(-greatest_limit, least * deep // (deep + resistance)))
         greatest = a + f_high
-        square = deep if greatest >= 0 else shallow
-        highs.append(-(-greatest * square // (square + resistance)))
-    if v_low < 0 < v_high:
-        lows.append(f_low)
-        highs.append(f_high)
+        if greatest >= 0:
+            highs.append(min(greatest_limit, -(-greatest * deep // (deep + resistance))))
+        else:
+            highs.append(max(-least_limit, -(-greatest * shallow // (shallow + resistance))))
     return min(lows), max(highs)
+
+
+def flux_range(*given):
+    """The step before the limit: no flux comes near what this speed allows."""
+    return held_range(10**9, *given)
 
 
 def gain_range(length, sine, v, onshore, depth):

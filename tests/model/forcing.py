@@ -1,8 +1,10 @@
 # Wind stress, its cross and onshore parts, and the force of a segment, as the
 # section "Sine, stress, force" of document 01 writes them; the wind stress
-# coefficient as TM-35's equation 9a prints it (document 02, Q-2).
+# coefficient as TM-35's equation 9a prints it (document 02, Q-2); the limiting
+# speed of a cross-stress sum (document 02, Q-6).
 
 from fractions import Fraction
+from math import isqrt
 
 from . import ranges
 from .sine import cosine, sine
@@ -51,3 +53,10 @@ def force_range(seconds, old_sum, new_sum):
     """F rounded outward."""
     value = force(seconds, old_sum, new_sum)
     return ranges.outward(value, value)
+
+
+def limiting_speed(friction, total):
+    """b in 0.001 ft/s: "the greatest whole number with 225,000·κ·b² not above 242 times
+    the size of this record's cross-stress sum over the two ends". b² is whole, so it
+    is not above the quotient just where it is not above its whole part."""
+    return isqrt(242 * abs(total) // (225_000 * friction))

@@ -1,8 +1,9 @@
 # Opening a traverse and taking a record: the limits, the checks 5 to 12 in
 # document 01's order with their places, of document 02 check 18 behind check 9
 # (request Q-4) and check 19 behind check 5 (request Q-5), and the steps of one
-# record. Rows and setup places are lists lent by the caller; a refused record
-# leaves them, and the state, as they were.
+# record, the new flux held by its limit (request Q-6). Rows and setup places are
+# lists lent by the caller; a refused record leaves them, and the state, as they
+# were.
 
 from collections import namedtuple
 
@@ -45,11 +46,12 @@ STEP = (1, 100)
 
 
 class Fractions:
-    """The range formulas by fractions; model.fast has the same four names."""
+    """The formulas by fractions; model.fast has the same five names."""
 
     depth_range = staticmethod(ranges.depth_range)
     force_range = staticmethod(forcing.force_range)
-    flux_range = staticmethod(ranges.flux_range)
+    limiting_speed = staticmethod(forcing.limiting_speed)
+    held_range = staticmethod(ranges.held_range)
     gain_range = staticmethod(ranges.gain_range)
 
 
@@ -148,7 +150,8 @@ Segment = namedtuple(
 
 def work_segment(given, setup, formulas):
     """One segment's steps 1 to 4: its flux and setup range, or the number of
-    the refusal. The old flux of a first record is nought and stays."""
+    the refusal. The old flux of a first record is nought and stays; it is not held.
+    The limit goes by this record's sum alone, and 11 is judged on the held flux."""
     depth = formulas.depth_range(given.depths, given.level, given.deficits, setup)
     if not both_within(depth, WATER_DEPTH):
         return 10
@@ -157,7 +160,8 @@ def work_segment(given, setup, formulas):
     else:
         force = formulas.force_range(given.seconds, given.old_sum, given.new_sum)
         drag = given.friction * given.seconds
-        flux = formulas.flux_range(given.flux, force, drag, depth)
+        speed = formulas.limiting_speed(given.friction, given.new_sum)
+        flux = formulas.held_range(speed, given.flux, force, drag, depth)
     if not both_within(flux, FLUX):
         return 11
     gain = formulas.gain_range(given.length, given.sine, flux, given.onshore, depth)

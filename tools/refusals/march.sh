@@ -61,7 +61,7 @@ explain_segment() { # NUMBER SEGMENT
             ;;
         11)
             say "limits: both ends of the flux along the shore from -10000 to 10000 ft2/s"
-            causes "a strong wind along the shore for a long time over deep water; friction too small; wind or seconds in another unit"
+            causes "a wind of more than 124 miles per hour along the shore over more than 600 ft of water, since only there the limiting flux is so large; friction too small; winds or depths in another unit"
             ;;
         12)
             say "limits: both ends of the setup from -100 ft to 100 ft"

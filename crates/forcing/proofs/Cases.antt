@@ -1,5 +1,5 @@
--- Document 01's reference runs for stress, sine and force, one table with one fact over it: the definitions compute to its numbers. And the
--- coefficients that TM-35 prints. Assumes nothing.
+-- Document 01's reference runs for stress, sine and force, one table with one fact over it: the definitions compute to its numbers. Then the
+-- coefficients that TM-35 prints, and limiting speeds. Assumes nothing.
 use mathlib.Core.Path.{◌≡◌, refl}
 use mathlib.Core.Bool.{false}
 use mathlib.Core.List.{List, [], ◌∷◌, map}
@@ -7,11 +7,13 @@ use lib.IntN.{ℤ, pos, negsuc, ◌+ℤ◌}
 use Rattle.ranges.specs.declared.Range.{Range}
 use Rattle.ranges.specs.Fraction.{whole, ◌*F◌, ◌/F◌}
 use Rattle.ranges.specs.Nearest.{nearest_whole}
+use Rattle.ranges.specs.Root.{whole_root, square_root, root_in}
 use Rattle.forcing.specs.Sine.{scaled_sine, sine_entry}
 use Rattle.forcing.specs.Quadrant.{sine_of, cosine_of}
 use Rattle.forcing.specs.Coefficient.{coefficient_of, as_fraction}
 use Rattle.forcing.specs.Stress.{stress_of, cross_of}
 use Rattle.forcing.specs.Force.{force_of}
+use Rattle.forcing.specs.Limit.{limiting_speed}
 
 -- wind 1,000 at one angle in all four places, Δt 1,800
 abbrev pub force_at : ℤ → Range
@@ -52,3 +54,11 @@ printed_coefficients =
 pub table-1 : map (λ (w : ℤ). nearest_whole (whole (pos 10) *F as_fraction (coefficient_of w))) printed_winds ≡ printed_coefficients
 unfolding ◌/F◌
 table-1 = refl
+
+-- limiting speeds: of the strongest winds across, with the least friction; of wind 1,000 at angle 900 at both ends, κ 25; with κ 22, where 225,000·κ·11²
+-- is 242 times 2,475,000, of that sum, of one less and of its negative; and of no stress
+pub speeds : limiting_speed (pos 10) (pos 2572800000000) ∷ limiting_speed (pos 25) (pos 572800000000)
+    ∷ limiting_speed (pos 22) (pos 2475000) ∷ limiting_speed (pos 22) (pos 2474999) ∷ limiting_speed (pos 22) (negsuc 2474999) ∷ limiting_speed (pos 25) (pos 0) ∷ []
+    ≡ pos 16634 ∷ pos 4964 ∷ pos 11 ∷ pos 10 ∷ pos 11 ∷ pos 0 ∷ []
+unfolding limiting_speed whole_root square_root root_in
+speeds = refl

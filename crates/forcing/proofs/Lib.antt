@@ -3,4 +3,5 @@ pub mod SineTable
 pub mod QuadrantLaws
 pub mod StressLaws
 pub mod ForceLaws
+pub mod LimitLaws
 pub mod Cases

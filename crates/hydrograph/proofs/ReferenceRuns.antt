@@ -1,7 +1,8 @@
 -- Document 01's "Reference runs (to be proved together, as one table with one fact over it)": every stress, sine, force, flux and gain case, the
 -- edges, and the listing from its two texts. One list of runs, each what a definition gives beside what the paper says; `reference-runs` says that
 -- the two columns are the same. Beside it a table of ours, `our-runs`: the paper's runs have deficit 0 everywhere, so equation 33 counts in none of
--- them. What ours are said to give was worked out by the second implementation, in fractions (`tests/model`). Assumes nothing.
+-- them, and no flux of theirs is held. What ours are said to give was worked out by the second implementation, in fractions (`tests/model`). Assumes
+-- nothing.
 use mathlib.Core.Path.{◌≡◌, refl}
 use mathlib.Core.Bool.{true, false}
 use mathlib.Core.List.{List, [], ◌∷◌, ◌++◌, map}
@@ -11,6 +12,8 @@ use Rattle.ranges.specs.declared.Range.{Range}
 use Rattle.ranges.specs.Fraction.{◌/F◌}
 use Rattle.ranges.specs.Range.{lesser, greater, nearest}
 use Rattle.ranges.specs.Quotient.{quotient_low, quotient_high}
+use Rattle.ranges.specs.Limited.{limited_low, limited_high}
+use Rattle.ranges.specs.Root.{whole_root, square_root, root_in}
 use Rattle.ranges.specs.Damped.{damped_of, damped_least, damped_most, damped_low, damped_high, damped_floor, damped_ceil}
 use Rattle.std.specs.Prelude.{Result, Ok, Err}
 use Rattle.records.specs.declared.Refusal.{Refusal}
@@ -19,12 +22,13 @@ use Rattle.forcing.specs.Sine.{scaled_sine, sine_entry}
 use Rattle.forcing.specs.Quadrant.{sine_of, cosine_of}
 use Rattle.forcing.specs.Stress.{stress_of, cross_of, onshore_of}
 use Rattle.forcing.specs.Force.{force_of}
+use Rattle.forcing.specs.Limit.{limiting_speed}
 use Rattle.records.specs.Groups.{wholes, group_at, put_group, groups, flat}
 use Rattle.records.specs.Limits.{inside, range_inside, count_ok, build_has, head_ok, station_ok, seconds_ok, point_ok, calm_ok, row_ok}
 use Rattle.records.specs.Refusals.{number_of}
 use Rattle.records.specs.Rows.{fresh_row}
 use Rattle.records.specs.Shapes.{storm}
-use Rattle.segment.specs.Segment.{depth_of, flux_of, gain_of, next_setup, segment_of, shore_base}
+use Rattle.segment.specs.Segment.{depth_of, free_flux, flux_of, gain_of, next_setup, segment_of, shore_base}
 use Rattle.march.specs.Checks.{spacing_ok, traverse_checks, open_of, places_ok, lent_checks, times_ok, record_checks, record_check, checks_of}
 use Rattle.march.specs.March.{march_by, segment_at}
 use Rattle.march.specs.Take.{take_of}
@@ -69,7 +73,7 @@ one z = record { low = z; high = z }
 abbrev force : ℤ → Value
 force angle = ranged (force_of false (pos 1800) (cross_of (pos 1000) angle +ℤ cross_of (pos 1000) angle) (cross_of (pos 1000) angle +ℤ cross_of (pos 1000) angle))
 
--- "κ 25", Δt, v, F and δ
+-- "κ 25", Δt, v, F and δ, before the limit: document 02, "Document 01's flux cases stand for the step before the limit"
 abbrev flux : ℤ → Range → ℤ → ℤ → Value
 flux seconds v f δ = ranged (damped_of (pos 25 *ℤ seconds) v (one f) (one δ))
 
@@ -164,7 +168,8 @@ reference_runs =
     ∷ gives (bytes (listing_of traverse_text storm_text)) (bytes listing_text)
     ∷ []
 
--- ---- runs of our own, not the paper's: deficits that differ from point to point and from record to record, three points, tide and angle not nought.
+-- ---- runs of our own, not the paper's: deficits that differ from point to point and from record to record, three points, tide and angle not nought,
+-- and a last record of little wind, whose limiting flux holds both fluxes.
 -- 57 for 114 or 114 for 57, another point's deficit in the shore height, or one end's deficit for both, each prints another listing
 
 abbrev our_traverse_text : List ℕ
@@ -204,6 +209,12 @@ our_storm_text =
     ++ (50 ∷ 55 ∷ 48 ∷ 48 ∷ 32 ∷ 54 ∷ 48 ∷ 32 ∷ 55 ∷ 53 ∷ 48 ∷ 32 ∷ 50 ∷ 49 ∷ 48 ∷ 48 ∷ 32 ∷ 49 ∷ 52 ∷ 48 ∷ 10 ∷ [])
     -- 2700 60 640 3300 95
     ++ (50 ∷ 55 ∷ 48 ∷ 48 ∷ 32 ∷ 54 ∷ 48 ∷ 32 ∷ 54 ∷ 52 ∷ 48 ∷ 32 ∷ 51 ∷ 51 ∷ 48 ∷ 48 ∷ 32 ∷ 57 ∷ 53 ∷ 10 ∷ [])
+    -- 900 60 250 2300 60
+    ++ (57 ∷ 48 ∷ 48 ∷ 32 ∷ 54 ∷ 48 ∷ 32 ∷ 50 ∷ 53 ∷ 48 ∷ 32 ∷ 50 ∷ 51 ∷ 48 ∷ 48 ∷ 32 ∷ 54 ∷ 48 ∷ 10 ∷ [])
+    -- 900 60 180 2650 85
+    ++ (57 ∷ 48 ∷ 48 ∷ 32 ∷ 54 ∷ 48 ∷ 32 ∷ 49 ∷ 56 ∷ 48 ∷ 32 ∷ 50 ∷ 54 ∷ 53 ∷ 48 ∷ 32 ∷ 56 ∷ 53 ∷ 10 ∷ [])
+    -- 900 60 210 2800 70
+    ++ (57 ∷ 48 ∷ 48 ∷ 32 ∷ 54 ∷ 48 ∷ 32 ∷ 50 ∷ 49 ∷ 48 ∷ 32 ∷ 50 ∷ 56 ∷ 48 ∷ 48 ∷ 32 ∷ 55 ∷ 48 ∷ 10 ∷ [])
 
 abbrev our_listing_text : List ℕ
 our_listing_text =
@@ -215,6 +226,8 @@ our_listing_text =
     ++ (49 ∷ 56 ∷ 48 ∷ 48 ∷ 32 ∷ 50 ∷ 54 ∷ 48 ∷ 53 ∷ 49 ∷ 32 ∷ 50 ∷ 54 ∷ 48 ∷ 53 ∷ 53 ∷ 10 ∷ [])
     -- 4500 17722 17725
     ++ (52 ∷ 53 ∷ 48 ∷ 48 ∷ 32 ∷ 49 ∷ 55 ∷ 55 ∷ 50 ∷ 50 ∷ 32 ∷ 49 ∷ 55 ∷ 55 ∷ 50 ∷ 53 ∷ 10 ∷ [])
+    -- 5400 18414 18416, and 18751 18753 if the last record's fluxes were not held
+    ++ (53 ∷ 52 ∷ 48 ∷ 48 ∷ 32 ∷ 49 ∷ 56 ∷ 52 ∷ 49 ∷ 52 ∷ 32 ∷ 49 ∷ 56 ∷ 52 ∷ 49 ∷ 54 ∷ 10 ∷ [])
 
 -- the water depth between points of 35.0 and 12.0 ft at level -5 with deficits 110 and 150, setup 10,955 to 10,957
 abbrev our_depth : Value
@@ -232,7 +245,7 @@ our_runs =
 -- ---- the facts
 
 all_runs : Agree reference_runs × Agree our_runs
-unfolding ◌/F◌ lesser greater nearest quotient_low quotient_high damped_least damped_most damped_low damped_high damped_floor damped_ceil scaled_sine sine_entry sine_of cosine_of stress_of cross_of onshore_of force_of wholes group_at put_group groups flat inside range_inside count_ok build_has head_ok station_ok seconds_ok point_ok row_ok depth_of flux_of gain_of next_setup segment_of shore_base first_bad spacing_ok first_of traverse_checks open_of places_ok lent_checks times_ok record_checks checks_of calm_ok march_by segment_at take_of digits_of decimal_of signed_text values_line refused_line more digit_at digits worth good_of signed_value start_at good_at value_at past_at close_of repeated kept_with same_with values_at lines_at spells names_at storm_start record_of next_at records_by storm_rest storm_of start with_values stored_at with_point line_at counted_by end_at rest_by rest_at traverse_of hydrograph_lines listing_of
+unfolding ◌/F◌ lesser greater nearest whole_root square_root root_in quotient_low quotient_high limited_low limited_high damped_least damped_most damped_low damped_high damped_floor damped_ceil scaled_sine sine_entry sine_of cosine_of stress_of cross_of onshore_of force_of limiting_speed wholes group_at put_group groups flat inside range_inside count_ok build_has head_ok station_ok seconds_ok point_ok row_ok depth_of free_flux flux_of gain_of next_setup segment_of shore_base first_bad spacing_ok first_of traverse_checks open_of places_ok lent_checks times_ok record_checks checks_of calm_ok march_by segment_at take_of digits_of decimal_of signed_text values_line refused_line more digit_at digits worth good_of signed_value start_at good_at value_at past_at close_of repeated kept_with same_with values_at lines_at spells names_at storm_start record_of next_at records_by storm_rest storm_of start with_values stored_at with_point line_at counted_by end_at rest_by rest_at traverse_of hydrograph_lines listing_of
 all_runs = (refl, refl)
 
 -- the paper's table

@@ -183,7 +183,7 @@ march-in most t r st rows places p =
       setting = record {
         latitude-low = p.traverse.latitude.from;
         latitude-high = p.traverse.latitude.to;
-        friction-low = le_trans {b = pos 10} (le_z_yes tt) p.traverse.friction.from;
+        friction-low = let l = p.traverse.friction.from in zomega (t.head.friction ∷ []) l (search says depth 20) (omega arith);
         friction = nn-sized (record { from = le_trans {b = pos 10} (le_z_yes tt) p.traverse.friction.from; to = p.traverse.friction.to });
         initial = sized p.traverse.initial;
         tide = sized p.values.tide;

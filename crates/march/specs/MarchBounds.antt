@@ -1,5 +1,5 @@
 -- What the functions of the march are given: numbers that the checks before it let pass.
-use Rattle.std.specs.Prelude.{List, ℕ, ◌+◌, ◌*◌, ◌≤◌, ◌<◌, length, ℤ, pos, ◌-ℤ◌, ◌≤ℤ◌}
+use Rattle.std.specs.Prelude.{List, ℕ, ◌+◌, ◌*◌, ◌≤◌, ◌<◌, length, ℤ, pos, ◌-ℤ◌, ◌≤ℤ◌, ◌<ℤ◌}
 use Rattle.ranges.specs.declared.Range.{Range}
 use Rattle.ranges.specs.Bounds.{Sized}
 use Rattle.forcing.specs.Quadrant.{Angle}
@@ -39,7 +39,7 @@ pub record EndIn (a : End) : Type 0 where
 pub record SettingFits (k : Setting) : Type 0 where
   pub sine-low : pos 0 ≤ℤ k.sine
   pub sine : Sized (pos 10000) k.sine
-  pub friction-low : pos 0 ≤ℤ k.friction
+  pub friction-low : pos 0 <ℤ k.friction
   pub friction : Sized (pos 50) k.friction
   pub seconds-low : pos 0 ≤ℤ k.seconds
   pub seconds : Sized (pos 3600) k.seconds
@@ -57,7 +57,7 @@ pub record BetweenIn (k : Setting) (a b : End) (row : Row) (s : Range) : Type 0 
 pub record SettingIn (h : Head) (c : Closing) : Type 0 where
   pub latitude-low : pos 0 ≤ℤ h.latitude
   pub latitude-high : h.latitude ≤ℤ pos 900
-  pub friction-low : pos 0 ≤ℤ h.friction
+  pub friction-low : pos 0 <ℤ h.friction
   pub friction : Sized (pos 50) h.friction
   pub initial : Sized (pos 1000) h.initial
   pub tide : Sized (pos 2000) c.tide

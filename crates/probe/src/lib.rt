@@ -7,9 +7,11 @@ ghost use Rattle.forcing.specs.Quadrant.{Angle, sine_of, cosine_of};
 ghost use Rattle.forcing.specs.Coefficient.{coefficient_of};
 ghost use Rattle.forcing.specs.Stress.{Wind, stress_of};
 ghost use Rattle.forcing.specs.Force.{ForceBounds, force_of};
-ghost use Rattle.ranges.specs.Bounds.{DampedIn};
+ghost use Rattle.forcing.specs.Limit.{LimitIn, limiting_speed};
+ghost use Rattle.ranges.specs.Bounds.{DampedIn, LimitBounds};
 ghost use Rattle.ranges.specs.Range.{Positive};
 ghost use Rattle.ranges.specs.Damped.{damped_of};
+ghost use Rattle.ranges.specs.Limited.{limited_of};
 ghost use Rattle.ranges.specs.Quotient.{quotient_of};
 ghost use Rattle.probe.specs.Ends.{ends_of, range, parts_of};
 
@@ -94,6 +96,36 @@ pub extern "C" fn probe_damped(
         high: dhigh,
     };
     let r = ranges::damped(c, v, f, d);
+    put(r, out);
+}
+
+#[unsafe(no_mangle)]
+pub extern "C" fn probe_limiting_speed(friction: i64, sum: i64) -> i64
+    requires { LimitIn friction sum }
+    ensures { result ≡ limiting_speed friction sum }
+{
+    forcing::limiting_speed(friction, sum)
+}
+
+// The range of a damped sum, held by the limit.
+#[unsafe(no_mangle)]
+pub extern "C" fn probe_limited(
+    speed: i64,
+    low: i64,
+    high: i64,
+    dlow: i64,
+    dhigh: i64,
+    out: &mut [i64],
+)
+    requires { (LimitBounds speed (range dlow dhigh)) × (length out.old ≡ 2) }
+    ensures { out.new ≡ ends_of (limited_of speed (range dlow dhigh) (range low high)) }
+{
+    let free = Range { low, high };
+    let d = Range {
+        low: dlow,
+        high: dhigh,
+    };
+    let r = ranges::limited(speed, d, free);
     put(r, out);
 }
 

@@ -1,12 +1,14 @@
 -- What `square_root` and `whole_root` are: the one number whose square is not above the operand while the next one's is. Assumes nothing.
-use mathlib.Core.Path.{◌≡◌, refl}
+use mathlib.Core.Path.{◌≡◌, refl, ap}
 use mathlib.Core.Bool.{Bool, true, false, cond}
 use Prim.Native.Nat.{ℕ, zero, suc, ◌+◌, ◌*◌, ◌/◌, ◌<◌, ◌≤◌, zero-le}
 use native.Mathlib.Nat.{mul-le-mul, le-div_iff_mul-le}
 use native.Mathlib.Omega.{arith}
-use lib.Dec.{leb}
+use lib.Dec.{leb, leb→le, ltb→lt}
+use lib.IntN.{ℤ, pos, negsuc, ◌+ℤ◌, ◌*ℤ◌}
+use lib.Signed.{◌≤ℤ◌, ◌<ℤ◌}
 use borrow.Author.Tests.{leb-true, leb-false}
-use Rattle.ranges.specs.Root.{IsRoot, or_more, root_in, square_root, whole_root, RootRight}
+use Rattle.ranges.specs.Root.{IsRoot, or_more, root_in, square_root, whole_root, root_of, RootRight}
 
 -- b² is not above q, and the next square is
 pub record Square (q b : ℕ) : Type 0 where
@@ -74,3 +76,19 @@ root-right = record {
   is = whole_is;
   only = λ k n b p r. let s = whole_is k n p in omega (arith, s.greatest b r.within, r.greatest (whole_root k n) s.within);
 }
+
+-- ---- of signed numbers: a number whose square with k is not above n, while that of the next one is, is the root
+
+below_next : (k n b c : ℕ) → k * (c * c) ≤ n → n < k * ((b + 1) * (b + 1)) → c ≤ b
+below_next k n b c l h = by (leb (b + 1) c) refl
+  where
+    by : (t : Bool) → leb (b + 1) c ≡ t → c ≤ b
+    by true e = let m = leb-true (b + 1) c e in let k-self : k ≤ k = omega arith in let no : ⊥ = omega (arith, mul-le-mul k-self (mul-le-mul m m)) in elim no [ ]
+    by false e = let m = leb-false (b + 1) c e in omega arith
+
+pub is-root : (k n b : ℤ) → pos 0 <ℤ k → pos 0 ≤ℤ n → pos 0 ≤ℤ b → (k *ℤ (b *ℤ b)) ≤ℤ n → n <ℤ (k *ℤ ((b +ℤ pos 1) *ℤ (b +ℤ pos 1))) → b ≡ root_of k n
+is-root (pos k) (pos n) (pos b) p nn bn l h =
+    ap pos (root-right.only k n b (ltb→lt 0 k p.lt) (record { within = leb→le _ _ l.le; greatest = λ c m. below_next k n b c m (ltb→lt _ _ h.lt) }))
+is-root (negsuc k) n b p nn bn l h = absurd p.lt
+is-root (pos k) (negsuc n) b p nn bn l h = absurd nn.le
+is-root (pos k) (pos n) (negsuc b) p nn bn l h = absurd bn.le

@@ -22,6 +22,8 @@ high_rule = record { rounded = ceil_div; further = greater; own = λ r. r.high; 
 
 -- what is asked of a rule. That a is no less far out than b is said by `further`: of the two it is a
 pub record EndLaws (e : EndRule) : Type 0 where
+  -- it is the rule of one of the two ends
+  pub is : (e ≡ low_rule) ⊎ (e ≡ high_rule)
   -- a fraction is rounded outward, and a whole number stays what it is
   pub outward : (n d : ℤ) → pos 0 <ℤ d → e.further (e.rounded n d *ℤ d) n ≡ e.rounded n d *ℤ d
   pub exact : (n d : ℤ) → pos 0 <ℤ d → e.rounded (n *ℤ d) d ≡ n

@@ -79,6 +79,7 @@ ceil-exact n d h = rw (← minus-times n d h) (ap neg_ℤ (floor-exact (neg_ℤ 
 
 pub low-laws : EndLaws low_rule
 low-laws = record {
+  is = inl refl;
   outward = λ n d p. lesser-is _ _ (floor-under n d p);
   exact = floor-exact;
   past_first = lesser-past_first;
@@ -89,6 +90,7 @@ low-laws = record {
 
 pub high-laws : EndLaws high_rule
 high-laws = record {
+  is = inr refl;
   outward = λ n d p. greater-is _ _ (ceil-over n d p);
   exact = ceil-exact;
   past_first = greater-past_first;

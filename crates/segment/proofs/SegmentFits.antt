@@ -1,26 +1,27 @@
 -- Each number on the way through a segment is small enough for an `i64`. Assumes nothing.
 use mathlib.Core.Path.{◌≡◌}
 use mathlib.Core.Bool.{Bool, true, false, cond}
-use mathlib.Core.Logic.{◌⊎◌, inl, inr}
 use mathlib.Core.List.{[], ◌∷◌}
 use native.Mathlib.Omega.{arith}
-use lib.IntN.{ℤ, pos, negsuc, neg_ℤ, ◌+ℤ◌, ◌-ℤ◌, ◌*ℤ◌}
-use lib.Signed.{lt_z, ◌≤ℤ◌, ◌<ℤ◌}
+use lib.IntN.{ℤ, pos, negsuc, ◌+ℤ◌, ◌*ℤ◌}
+use lib.Signed.{lt_z, ◌≤ℤ◌}
 use Rattle.ranges.specs.declared.Range.{Range}
-use Rattle.ranges.specs.Bounds.{Sized, DampedSpan, DampedIn}
+use Rattle.ranges.specs.Bounds.{Sized, DampedSpan, DampedIn, LimitBounds}
 use Rattle.ranges.specs.Division.{floor_div, ceil_div}
 use Rattle.ranges.specs.Quotient.{quotient_low, quotient_high}
 use Rattle.ranges.specs.Range.{Positive}
-use Rattle.ranges.proofs.LinearSolver.{zomega, says, ◌&◌}
-use Rattle.ranges.proofs.IntegerOrder.{le-or-gt, nn-mul}
+use Rattle.ranges.proofs.LinearSolver.{zomega, says}
+use Rattle.ranges.proofs.IntegerOrder.{lt-le, nn-mul}
 use Rattle.ranges.proofs.Fits.{sized-add, sized-mul, sized-literal}
-use Rattle.ranges.proofs.DivisionLaws.{Floor, floor-is}
+use Rattle.ranges.proofs.DivisionLaws.{floor-sized, ceil-sized}
+use Rattle.forcing.specs.Limit.{LimitIn}
+use Rattle.forcing.proofs.LimitLaws.{speed-sized}
 use Rattle.records.specs.declared.Row.{Row}
 use Rattle.segment.specs.declared.Site.{Site}
 use Rattle.segment.specs.declared.Weather.{Weather}
 use Rattle.records.specs.Limits.{water_ok, flux_ok}
 use Rattle.records.specs.Rows.{row_flux}
-use Rattle.segment.specs.Segment.{depth_base, drag, segment_force, gain_top, gain_of, SiteIn, WeatherIn, RowIn, SetupIn, GainIn}
+use Rattle.segment.specs.Segment.{depth_base, drag, segment_force, segment_speed, gain_top, gain_of, SiteIn, WeatherIn, RowIn, SetupIn, GainIn}
 use Rattle.segment.proofs.SegmentForce.{segment-force-small}
 use Rattle.records.proofs.LimitLaws.{sized, range-between, water-positive, water-low-in, water-high-in}
 
@@ -29,27 +30,7 @@ use Rattle.records.proofs.LimitLaws.{sized, range-between, water-positive, water
 pub ends-in : (r : Range) → flux_ok r ≡ true → SetupIn r
 ends-in r e = let b = range-between (negsuc 999999) (pos 1000000) r e in record { low = sized b.low-in; high = sized b.high-in }
 
--- ---- a quotient is not larger than its numerator
-
-floor-sized : (b n d q : ℤ) → Sized b n → pos 0 <ℤ d → Floor n d q → Sized b q
-floor-sized b n d q w p f = record { low = low (le-or-gt (pos 0) q); high = high (le-or-gt q (pos 0)) }
-  where
-    low : (pos 0 ≤ℤ q) ⊎ (q <ℤ pos 0) → neg_ℤ b ≤ℤ q
-    low (inl h) = zomega (b ∷ n ∷ q ∷ []) (w.low & w.high & h) (search says depth 20) (omega arith)
-    low (inr h) =
-        let x : pos 0 ≤ℤ (neg_ℤ q -ℤ pos 1) = zomega (q ∷ []) h (search says depth 20) (omega arith) in
-        let y : pos 0 ≤ℤ (d -ℤ pos 1) = zomega (d ∷ []) p (search says depth 20) (omega arith) in
-        zomega (b ∷ n ∷ d ∷ q ∷ []) (w.low & f.high & nn-mul x y) (search says depth 20) (omega arith)
-
-    high : (q ≤ℤ pos 0) ⊎ (pos 0 <ℤ q) → q ≤ℤ b
-    high (inl h) = zomega (b ∷ n ∷ q ∷ []) (w.low & w.high & h) (search says depth 20) (omega arith)
-    high (inr h) =
-        let x : pos 0 ≤ℤ (q -ℤ pos 1) = zomega (q ∷ []) h (search says depth 20) (omega arith) in
-        let y : pos 0 ≤ℤ (d -ℤ pos 1) = zomega (d ∷ []) p (search says depth 20) (omega arith) in
-        zomega (b ∷ n ∷ d ∷ q ∷ []) (w.high & f.low & nn-mul x y & p) (search says depth 20) (omega arith)
-
-sized-neg : {b x : ℤ} → Sized b x → Sized b (neg_ℤ x)
-sized-neg {b} {x} w = record { low = zomega (b ∷ x ∷ []) w.high (search says depth 20) (omega arith); high = zomega (b ∷ x ∷ []) w.low (search says depth 20) (omega arith) }
+-- ---- a quotient over a range of divisors
 
 module _ (b n : ℤ) (d : Range) (w : Sized b n) (p : Positive d) where
   quotient-low-sized : Sized b (quotient_low n d)
@@ -57,19 +38,16 @@ module _ (b n : ℤ) (d : Range) (w : Sized b n) (p : Positive d) where
   quotient-low-sized = go (lt_z n (pos 0))
     where
       go : (t : Bool) → Sized b (floor_div n (cond t d.low d.high))
-      go true = floor-sized b n d.low (floor_div n d.low) w p.low (floor-is n d.low p.low)
-      go false = floor-sized b n d.high (floor_div n d.high) w p.high (floor-is n d.high p.high)
+      go true = floor-sized b n d.low w p.low
+      go false = floor-sized b n d.high w p.high
 
   quotient-high-sized : Sized b (quotient_high n d)
   unfolding quotient_high
   quotient-high-sized = go (lt_z n (pos 0))
     where
-      up : (e : ℤ) → pos 0 <ℤ e → Sized b (ceil_div n e)
-      up e h = sized-neg (floor-sized b (neg_ℤ n) e (floor_div (neg_ℤ n) e) (sized-neg w) h (floor-is (neg_ℤ n) e h))
-
       go : (t : Bool) → Sized b (ceil_div n (cond t d.high d.low))
-      go true = up d.high p.high
-      go false = up d.low p.low
+      go true = ceil-sized b n d.high w p.high
+      go false = ceil-sized b n d.low w p.low
 
 -- ---- water depth
 
@@ -98,7 +76,11 @@ module _ {a : Site} {w : Weather} (i : SiteIn a) (j : WeatherIn w) where
   drag-in = sized-mul i.friction j.seconds
 
   pub drag-nn : pos 0 ≤ℤ drag a w
-  drag-nn = nn-mul i.friction-low j.seconds-low
+  drag-nn = nn-mul (lt-le i.friction-low) j.seconds-low
+
+  -- its limit
+  pub limit-in : LimitIn a.friction w.cross
+  limit-in = record { friction-low = i.friction-low; friction = i.friction; sum-in = j.cross }
 
   -- ---- gain
 
@@ -132,6 +114,9 @@ damped-in {a} {w} {v} {δ} i j k e = let f = segment-force-small j k in record {
       low = record { c-nn = drag-nn i j; c-in = c-in; v-in = k.low; f-in = f; d-pos = (water-positive δ e).low; d-in = water-low-in δ e };
       high = record { c-nn = drag-nn i j; c-in = c-in; v-in = k.high; f-in = f; d-pos = (water-positive δ e).high; d-in = water-high-in δ e };
     }
+
+pub limited-in : {a : Site} {w : Weather} {δ : Range} → SiteIn a → WeatherIn w → water_ok δ ≡ true → LimitBounds (segment_speed a w) δ
+limited-in {δ} i j e = record { b-in = speed-sized (limit-in i j); low = water-low-in δ e; high = water-high-in δ e }
 
 pub divisor-in : {d : ℤ} → Sized (pos 100000) d → Sized (pos 100000000000000) (pos 1000000000 *ℤ d)
 divisor-in h = sized-mul (sized-literal 1000000000) h

@@ -1,5 +1,5 @@
 -- The ranges of a segment's water depth, flux and gain are outward over the fractions that they are worked out of. Depth and gain are
--- quotients whose numerator and divisor rise with what is chosen; the flux is the damped sum. Assumes nothing.
+-- quotients whose numerator and divisor rise with what is chosen; the flux is the damped sum, held. Assumes nothing.
 use mathlib.Core.Path.{◌≡◌, refl}
 use mathlib.Core.Bool.{Bool, true, false, cond}
 use mathlib.Core.List.{[], ◌∷◌}
@@ -16,16 +16,17 @@ use Rattle.ranges.proofs.LinearSolver.{zomega, zomega₀, says, ◌&◌}
 use Rattle.ranges.proofs.IntegerOrder.{nn-mul}
 use Rattle.ranges.proofs.FractionLaws.{at_low, at_high, whole_in, sum-within, scaled-within, within-ordered}
 use Rattle.ranges.proofs.QuotientsOutward.{Corner, quotients-outward}
-use Rattle.ranges.proofs.DampedOutward.{damped-outward}
+use Rattle.ranges.proofs.LimitedOutward.{limited-right}
 use Rattle.ranges.proofs.OutwardLaws.{equal-ends, outward-ordered}
 use Rattle.forcing.specs.Force.{force_fraction}
+use Rattle.forcing.proofs.LimitLaws.{speed-nn}
 use Rattle.records.specs.declared.Row.{Row}
 use Rattle.segment.specs.declared.Site.{Site}
 use Rattle.segment.specs.declared.Weather.{Weather}
 use Rattle.segment.specs.declared.Leg.{Leg}
 use Rattle.std.specs.Prelude.{Ok}
 use Rattle.records.specs.Rows.{row_flux}
-use Rattle.segment.specs.Segment.{depth_base, depth_of, drag, segment_force, flux_of, gain_top, gain_of, next_setup, segment_depth, segment_flux, segment_gain, segment_of, SiteIn, WeatherIn}
+use Rattle.segment.specs.Segment.{depth_base, depth_of, drag, segment_force, segment_speed, free_flux, flux_of, gain_top, gain_of, next_setup, segment_depth, segment_flux, segment_gain, segment_of, SiteIn, WeatherIn}
 use Rattle.segment.specs.ExactSegment.{exact_depth, exact_gain, DepthChoice, depth_at, FluxChoice, flux_at, GainChoice, gain_at, SegmentOutward}
 use Rattle.segment.proofs.SegmentForce.{segment-force-within}
 use Rattle.segment.proofs.SegmentFits.{drag-nn, divisor-positive}
@@ -83,7 +84,7 @@ flux_choice first w v δ x y i j = record {
 }
 
 pub flux-outward : (first : Bool) (a : Site) (w : Weather) (v : Row) (δ : Range) → pos 0 ≤ℤ drag a w → Positive δ → Ordered (row_flux v) → Ordered δ → Outward (flux_at first a w v δ) (flux_of first a w v δ)
-unfolding flux_of
+unfolding flux_of free_flux
 flux-outward true a w v δ c0 p vo δo = record {
   within = λ x. x.v-in;
   least = flux_choice true w v δ (whole v.low) (whole δ.low) (at_low (row_flux v) vo) (at_low δ δo);
@@ -92,7 +93,7 @@ flux-outward true a w v δ c0 p vo δo = record {
   greatest-near = record { lt = zomega₀ (v.high ∷ []) (search says depth 20) (omega arith) };
 }
 flux-outward false a w v δ c0 p vo δo =
-    damped-outward (drag a w) c0 (row_flux v) (segment_force false w v) δ p vo (within-ordered (segment-force-within false w v)) δo
+    limited-right.outward (segment_speed a w) (drag a w) (row_flux v) (segment_force false w v) δ (speed-nn a.friction w.cross) c0 p vo (within-ordered (segment-force-within false w v)) δo
 
 -- ---- gain: its numerator rises with v, since neither length nor sine is negative
 

@@ -4,7 +4,8 @@ use Rattle.std.specs.Prelude.{◌≡◌, Bool, true, false, ℤ, pos, ◌*ℤ◌
 use Rattle.ranges.specs.declared.Range.{Range}
 use Rattle.ranges.specs.Fraction.{Frac, whole, ◌+F◌, ◌*F◌, ◌/F◌}
 use Rattle.ranges.specs.Range.{Within}
-use Rattle.ranges.specs.Damped.{damped, DampedChoice, damped_at}
+use Rattle.ranges.specs.Damped.{damped, DampedChoice}
+use Rattle.ranges.specs.Limited.{limited, limited_at}
 use Rattle.ranges.specs.Outward.{Outward, EqualEnds}
 use Rattle.forcing.specs.Force.{force_fraction}
 use Rattle.records.specs.declared.Row.{Row}
@@ -12,7 +13,7 @@ use Rattle.segment.specs.declared.Site.{Site}
 use Rattle.segment.specs.declared.Weather.{Weather}
 use Rattle.segment.specs.declared.Leg.{Leg}
 use Rattle.records.specs.Rows.{row_flux}
-use Rattle.segment.specs.Segment.{depth_base, drag, segment_force, segment_depth, segment_flux, segment_gain}
+use Rattle.segment.specs.Segment.{depth_base, drag, segment_force, segment_speed, segment_depth, segment_flux, segment_gain}
 
 -- what the exact march keeps of a segment: "a fraction v and the last sum of the two cross stresses"
 pub record Kept : Type 0 where
@@ -29,10 +30,10 @@ fresh_kept = record { v = whole (pos 0); cross = pos 0 }
 unfoldable pub exact_depth : Site → Weather → Frac → Frac
 exact_depth a w s = (whole (depth_base a w) +F s) /F whole (pos 100)
 
--- 2. new flux; "In the first record F is 0 and v stays"
+-- 2. new flux, held by the c of its own δ: document 02's Q-6, "in the exact march alike"; "In the first record F is 0 and v stays"
 unfoldable pub exact_flux : Bool → Site → Weather → Kept → Frac → Frac
 exact_flux true a w k δ = k.v
-exact_flux false a w k δ = damped (drag a w) k.v (force_fraction false w.seconds k.cross w.cross) δ
+exact_flux false a w k δ = limited (segment_speed a w) δ (damped (drag a w) k.v (force_fraction false w.seconds k.cross w.cross) δ)
 
 -- 3. gain
 unfoldable pub exact_gain : Site → Weather → Frac → Frac → Frac
@@ -63,10 +64,11 @@ depth_at a w x = exact_depth a w x.s-is
 abbrev pub FluxChoice : Bool → Weather → Row → Range → Type 0
 FluxChoice first w v δ = DampedChoice (row_flux v) (segment_force first w v) δ
 
--- "It reaches the formula's value before rounding; for a flux in the first record it reaches v itself"
+-- "It reaches the formula's value before rounding; for a flux in the first record it reaches v itself". The limit is applied "for each choice of v, F
+-- and δ"
 abbrev pub flux_at : (first : Bool) (a : Site) (w : Weather) (v : Row) (δ : Range) → FluxChoice first w v δ → Frac
 flux_at true a w v δ x = x.v-is
-flux_at false a w v δ x = damped_at (drag a w) x
+flux_at false a w v δ x = limited_at (segment_speed a w) (drag a w) x
 
 pub record GainChoice (v δ : Range) : Type 0 where
   pub v-is : Frac

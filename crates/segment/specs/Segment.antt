@@ -1,10 +1,12 @@
--- One segment of a record, in ranges: document 01's "One record", steps 1 to 4, a line of the paper to a line here.
-use Rattle.std.specs.Prelude.{Bool, true, false, cond, ℕ, ℤ, pos, ◌+ℤ◌, ◌*ℤ◌, ◌≤ℤ◌, Result, Ok, Err}
+-- One segment of a record, in ranges: document 01's "One record", steps 1 to 4, a line of the paper to a line here, and document 02's Q-6.
+use Rattle.std.specs.Prelude.{Bool, true, false, cond, ℕ, ℤ, pos, ◌+ℤ◌, ◌*ℤ◌, ◌≤ℤ◌, ◌<ℤ◌, Result, Ok, Err}
 use Rattle.ranges.specs.declared.Range.{Range}
 use Rattle.ranges.specs.Bounds.{Sized}
 use Rattle.ranges.specs.Quotient.{quotient_of}
 use Rattle.ranges.specs.Damped.{damped_of}
+use Rattle.ranges.specs.Limited.{limited_of}
 use Rattle.forcing.specs.Force.{force_of}
+use Rattle.forcing.specs.Limit.{limiting_speed}
 use Rattle.records.specs.declared.Row.{Row}
 use Rattle.segment.specs.declared.Site.{Site}
 use Rattle.segment.specs.declared.Weather.{Weather}
@@ -31,10 +33,18 @@ drag a w = a.friction *ℤ w.seconds
 abbrev pub segment_force : Bool → Weather → Row → Range
 segment_force first w v = force_of first w.seconds v.cross w.cross
 
--- 2. "New flux (equation 12): (v + F)·100δ²/(100δ² + κ·Δt·|v|). .. In the first record the flux stays"
+-- 2. "New flux (equation 12): (v + F)·100δ²/(100δ² + κ·Δt·|v|)": the step before the limit
+unfoldable pub free_flux : Site → Weather → Row → Range → Range
+free_flux a w v δ = damped_of (drag a w) (row_flux v) (segment_force false w v) δ
+
+-- b of the limiting flux c, document 02's Q-6, of "this record's cross-stress sum over the two ends"
+abbrev pub segment_speed : Site → Weather → ℤ
+segment_speed a w = limiting_speed a.friction w.cross
+
+-- "the new flux is held between -c and c, c = bδ/1,000"; "In the first record the flux stays"
 unfoldable pub flux_of : Bool → Site → Weather → Row → Range → Range
 flux_of true a w v δ = row_flux v
-flux_of false a w v δ = damped_of (drag a w) (row_flux v) (segment_force false w v) δ
+flux_of false a w v δ = limited_of (segment_speed a w) δ (free_flux a w v δ)
 
 -- X·(2,748,816·s·v + 2,030·Y)
 abbrev pub gain_top : Site → Weather → ℤ → ℤ
@@ -90,7 +100,7 @@ pub record SiteIn (a : Site) : Type 0 where
   pub depths : Sized (pos 20000) a.depths
   pub sine-low : pos 0 ≤ℤ a.sine
   pub sine : Sized (pos 10000) a.sine
-  pub friction-low : pos 0 ≤ℤ a.friction
+  pub friction-low : pos 0 <ℤ a.friction
   pub friction : Sized (pos 50) a.friction
 
 pub record WeatherIn (w : Weather) : Type 0 where

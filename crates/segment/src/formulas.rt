@@ -3,7 +3,7 @@
 ghost use Rattle.std.specs.Prelude.{◌≡◌, true, pos};
 ghost use Rattle.ranges.specs.Bounds.{Sized};
 ghost use Rattle.records.specs.Limits.{water_ok, flux_ok};
-ghost use Rattle.segment.specs.Segment.{GainIn, ShoreIn, shore_base, depth_of, flux_of, gain_top, gain_of, next_setup, leg_of, segment_of, SiteIn, WeatherIn, RowIn, SetupIn, SegmentIn};
+ghost use Rattle.segment.specs.Segment.{GainIn, ShoreIn, shore_base, depth_of, free_flux, flux_of, gain_top, gain_of, next_setup, leg_of, segment_of, SiteIn, WeatherIn, RowIn, SetupIn, SegmentIn};
 
 use super::{Leg, Site, Weather};
 use ranges::Range;
@@ -63,18 +63,28 @@ impl Segment {
         ranges::quotient(top, bottom)
     }
 
-    // The new flux in 0.01 ft²/s. In the first record the row's flux stays.
+    // The new flux in 0.01 ft²/s before the limit, of a later record.
+    fn free_flux(self, row: Row, depth: Range) -> Range
+        requires { (RowIn row) × (water_ok depth ≡ true) }
+        ensures { result ≡ free_flux self.site self.weather row depth }
+    {
+        let Weather { seconds, cross, .. } = self.weather;
+        let force = forcing::force(false, seconds, row.cross, cross);
+        ranges::damped(self.site.friction * seconds, row.flux(), force, depth)
+    }
+
+    // The new flux, held by the limiting flux of this record's cross stress. In the first record the row's flux stays.
     fn flux_range(self, first: bool, row: Row, depth: Range) -> Range
         requires { (RowIn row) × (water_ok depth ≡ true) }
         ensures { result ≡ flux_of first self.site self.weather row depth }
     {
-        let old = row.flux();
         if first {
-            return old;
+            return row.flux();
         }
-        let Weather { seconds, cross, .. } = self.weather;
-        let force = forcing::force(false, seconds, row.cross, cross);
-        ranges::damped(self.site.friction * seconds, old, force, depth)
+        // The speed comes first: it needs no water depth, so that it is worked out while the divisions of the flux wait for theirs.
+        let speed = forcing::limiting_speed(self.site.friction, self.weather.cross);
+        let free = self.free_flux(row, depth);
+        ranges::limited(speed, depth, free)
     }
 
     // The gain's numerator at one flux: X·(2,748,816·s·v + 2,030·Y).

@@ -1,7 +1,7 @@
 -- `distance` meets its contract. Assumes nothing.
 use Rattle.std.proofs.Common.{◌∙◌}
 use borrow.Author.Rules.{sfits_of}
-use lib.Signed.{lt_z_yes}
+use lib.Signed.{lt_z_yes, le_z_yes}
 use mir.Facts.{to_z-of_z}
 use mir.Syntax.{w64}
 use mir.Val.{SFits}
@@ -24,7 +24,8 @@ whole_root-requires c =
     let p = across-square-fits _ _ _ _ c.requires in
     let q = along-square-fits _ _ _ _ c.requires in
     let s = squares-fit _ _ _ _ c.requires in
-    simp (to_z-of_z, c.ranges.x, c.ranges.x0, c.ranges.y, c.ranges.y0, a, b, p, q, s) (lt_z_yes tt, squares-nn _ _ _ _ c.requires)
+    simp (to_z-of_z, c.ranges.x, c.ranges.x0, c.ranges.y, c.ranges.y0, a, b, p, q, s)
+    (record { k-low = lt_z_yes tt; k-high = le_z_yes tt; n-low = squares-nn _ _ _ _ c.requires })
 
 pub returns : goal.returns
 unfolding distance_of

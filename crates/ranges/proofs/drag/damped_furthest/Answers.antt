@@ -1,6 +1,6 @@
 -- `damped_furthest` meets its contract. Assumes nothing.
-use mathlib.Core.Path.{◌≡◌, sym, ap, ap₂, ◌∙◌}
-use mathlib.Core.Bool.{Bool, false, cond, not, ◌&&◌}
+use mathlib.Core.Path.{◌≡◌, refl, sym, subst, ap, ap₂, ◌∙◌}
+use mathlib.Core.Bool.{Bool, true, false, cond, not, ◌&&◌}
 use lib.IntN.{ℤ, pos}
 use lib.Signed.{lt_z}
 use mir.Facts.{to_z-of_z}
@@ -9,11 +9,15 @@ use mir.Val.{SFits}
 use Rattle.std.proofs.Common.{is_le, is_lt, Ordering, Less, Equal, Greater, arith}
 use Rattle.std.proofs.lemmas.Int.{ints}
 use Rattle.ranges.specs.declared.Range.{Range}
-use Rattle.ranges.specs.Bounds.{DampedSpan}
+use Rattle.ranges.specs.Bounds.{DampedBounds, DampedSpan}
+use Rattle.ranges.specs.Rises.{ordered, rises_at, rises}
 use Rattle.ranges.specs.Range.{Positive, spans_zero}
-use Rattle.ranges.specs.Ends.{EndRule}
+use Rattle.ranges.specs.Ends.{EndRule, EndLaws}
 use Rattle.ranges.specs.Damped.{damped_end}
 use Rattle.ranges.proofs.DampedOutward.{with_zero, without_zero}
+use Rattle.ranges.proofs.DampedRises.{RisesIn, furthest-is}
+use Rattle.ranges.proofs.EndsLaws.{of_own}
+use Rattle.ranges.proofs.Branches.{le-true}
 use Rattle.ranges.proofs.DampedFits.{c-fits, v-fits, f-fits}
 use Rattle.ranges.proofs.Fits.{held}
 use Rattle.ranges.proofs.drag.damped_furthest.Goals as goal
@@ -50,6 +54,58 @@ module _ {c f : ℤ} {v δ : Range} (s : DampedSpan c v f δ) where
 
   zero_is : {low high : ℤ} {spent b : Bool} → low ≡ held v.low → high ≡ held v.high → spent ≡ false → b ≡ holds_zero low high spent → spans_zero v ≡ b
   zero_is = spans_zero-is v (v-fits s.low) (v-fits s.high)
+
+-- ---- where the value rises with v
+
+own-bounds : {c x f : ℤ} {v δ : Range} {e : EndRule} → EndLaws e → DampedSpan c v f δ → x ≡ e.own v → (DampedBounds c x f δ.low) × (DampedBounds c x f δ.high)
+own-bounds {c} {x} {f} {v} {δ} laws s is = subst Both (sym is) (of_own laws Both v (s.low, with-depth s.low s.high) (with-depth s.high s.low, s.high))
+  where
+    Both : ℤ → Type 0
+    Both y = (DampedBounds c y f δ.low) × (DampedBounds c y f δ.high)
+
+    with-depth : {y z d k : ℤ} → DampedBounds c y f d → DampedBounds c z f k → DampedBounds c y f k
+    with-depth a b = record { c-nn = a.c-nn; c-in = a.c-in; v-in = a.v-in; f-in = a.f-in; d-pos = b.d-pos; d-in = b.d-in }
+
+-- what the test told
+and-true : (a b : Bool) → (a && b) ≡ true → (a ≡ true) × (b ≡ true)
+and-true true b e = (refl, e)
+and-true false b e = absurd (let z : false ≡ true = e in no z)
+  where
+    no : false ≡ true → ⊥
+    no z = subst (λ (t : Bool). cond t ⊥ (Unit {0})) z tt
+
+rises-told : (c f : ℤ) (v δ : Range) → rises c v f δ ≡ true → RisesIn c v f δ
+unfolding rises
+rises-told c f v δ e =
+    let a = and-true (ordered v) (ordered δ && rises_at c f δ.low) e in
+    let b = and-true (ordered δ) (rises_at c f δ.low) a.1 in
+    record { v-ordered = le-true _ _ a.0; δ-ordered = le-true _ _ b.0; small = le-true _ _ b.1 }
+
+module _ {c f : ℤ} {v δ : Range} (s : DampedSpan c v f δ) where
+  told : {t : Bool} → t ≡ rises (held c) v (held f) δ → t ≡ true → RisesIn c v f δ
+  told e h = rises-told c f v δ (sym (simp (to_z-of_z, c-fits s.low, f-fits s.low) at e) ∙ h)
+
+  own-fits : (e : EndRule) → EndLaws e → SFits w64 (e.own v)
+  own-fits e laws = of_own laws (SFits w64) v (v-fits s.low) (v-fits s.high)
+
+pub damped_end-requires : goal.damped_end-requires
+damped_end-requires g c =
+    let s = c.requires in
+    let laws = g.met.E.RangeEnd.laws in
+    let own = own-fits s g.E.RangeEnd.rule laws in
+    rw (c.ends-own.ensures.own, to_z-of_z own, to_z-of_z (c-fits s.low), to_z-of_z (f-fits s.low)) (own-bounds laws s refl)
+
+pub returns-then-rises : goal.returns-then-rises
+returns-then-rises g c =
+    let s = c.requires in
+    let e = g.E.RangeEnd.rule in
+    let laws = g.met.E.RangeEnd.laws in
+    let own = own-fits s e laws in
+    let r : SFits w64 c.damped_end.result = record { sfits = c.damped_end.type_inv } in
+    to_z-of_z r ∙ (simp (c.ends-own.ensures.own, to_z-of_z, own, c-fits s.low, f-fits s.low) at c.damped_end.ensures)
+    ∙ sym (furthest-is c.args.c s.low.c-nn c.args.v c.args.f c.args.depth (divisors s) (told s c.rises.ensures c.if-rises.true) laws)
+
+-- ---- elsewhere
 
 pub returns-then-contains : goal.returns-then-contains
 returns-then-contains g c =
