@@ -11,8 +11,8 @@
  *
  * THE FLUX that a record leaves in each segment's row is held by the limiting flux of TM-35's errata: it is no larger than c, the water
  * depth times b / 1,000, where b is the greatest whole number with 225,000 * friction * b * b not above 242 times the size of the cross
- * sum that the same record leaves in the row. What lies past c becomes c, for each flux and depth in their ranges; a record whose cross
- * sum is 0 leaves no flux. The first record leaves 0 and is not held.
+ * sum that the same record leaves in the row. What lies above c becomes c and what lies below -c becomes -c, for each flux and depth in
+ * their ranges; a record whose cross sum is 0 leaves no flux. The first record leaves 0 and is not held.
  *
  * THE TEXT of a traverse and of a storm, in the form of traverse.txt and storm.txt and held whole by the caller, is read into such
  * numbers by fennhop_read_traverse and fennhop_read_record. No value is judged by its limits there: that is for the two calls above.
