@@ -17,7 +17,7 @@ use Rattle.ranges.specs.Damped.{damped_end}
 use Rattle.ranges.proofs.DampedOutward.{with_zero, without_zero}
 use Rattle.ranges.proofs.DampedRises.{RisesIn, furthest-is}
 use Rattle.ranges.proofs.EndsLaws.{of_own}
-use Rattle.ranges.proofs.Branches.{le-true}
+use Rattle.ranges.proofs.Branches.{le-true, false-true}
 use Rattle.ranges.proofs.DampedFits.{c-fits, v-fits, f-fits}
 use Rattle.ranges.proofs.Fits.{held}
 use Rattle.ranges.proofs.drag.damped_furthest.Goals as goal
@@ -69,10 +69,7 @@ own-bounds {c} {x} {f} {v} {δ} laws s is = subst Both (sym is) (of_own laws Bot
 -- what the test told
 and-true : (a b : Bool) → (a && b) ≡ true → (a ≡ true) × (b ≡ true)
 and-true true b e = (refl, e)
-and-true false b e = absurd (let z : false ≡ true = e in no z)
-  where
-    no : false ≡ true → ⊥
-    no z = subst (λ (t : Bool). cond t ⊥ (Unit {0})) z tt
+and-true false b e = absurd (false-true e)
 
 rises-told : (c f : ℤ) (v δ : Range) → rises c v f δ ≡ true → RisesIn c v f δ
 unfolding rises

@@ -1,14 +1,12 @@
 -- `rises` meets its contract. Assumes nothing.
-use mathlib.Core.Path.{◌≡◌, sym, subst, ◌∙◌}
-use mathlib.Core.Bool.{Bool, true, false, cond}
+use mathlib.Core.Path.{◌≡◌, sym, ◌∙◌}
+use mathlib.Core.Bool.{true}
 use mir.Facts.{to_z-of_z}
 use Rattle.ranges.specs.Rises.{ordered, rises_at, rises}
+use Rattle.ranges.proofs.Branches.{false-true}
 use Rattle.ranges.proofs.DampedFits.{d-fits}
 use Rattle.ranges.proofs.drag.rises.Goals as goal
 use Rattle.ranges.proofs.drag.rises.Goals.{then-ordered, else-ordered}
-
-false-true : false ≡ true → ⊥
-false-true e = subst (λ (t : Bool). cond t ⊥ (Unit {0})) e tt
 
 pub returns-then-ordered-2 : goal.returns-then-ordered-2
 unfolding rises
