@@ -13,17 +13,19 @@ enum { POINTS = FENNHOP_MOST_POINTS, SEGMENTS = FENNHOP_MOST_SEGMENTS, WINDS = F
 static int64_t points[FENNHOP_READ_POINTS], storm[FENNHOP_READ_STORM], state[FENNHOP_STATE], answer[FENNHOP_ANSWER];
 static int64_t head[FENNHOP_HEAD], cursor[FENNHOP_CURSOR], values[FENNHOP_VALUES], setup[FENNHOP_SETUP_STRIDE * SEGMENTS];
 static int64_t winds[FENNHOP_WINDS_STRIDE * WINDS], sites[FENNHOP_SITES_STRIDE * POINTS], room[FENNHOP_READ_STORM];
+static int64_t factors[FENNHOP_FACTORS], table_room[FENNHOP_FACTORS];
 static fennhop_row rows[SEGMENTS];
-static char traverse_text[4096], storm_text[8192], deck[4096];
+static char traverse_text[4096], storm_text[8192], deck[4096], profile[16384];
 static uint8_t text[4096];
 
 static unsigned char stack[SIZE], *frame; /* the frame of the function that makes the call */
 static ucontext_t here, there;
 static uint64_t told;
 
-/* What the cases change: numbers that are refused, the seconds, the bytes of text, the room for a record and for a text. */
+/* What the cases change: numbers that are refused, the seconds, the bytes of text, the room for a record, for a text and for a table. */
 static int64_t latitude = 430, seconds, shore_wind = 264, central_pressure = 2757;
-static size_t traverse_bytes, storm_bytes, deck_bytes, room_count = FENNHOP_READ_STORM, text_count = sizeof text;
+static size_t traverse_bytes, storm_bytes, deck_bytes, profile_bytes;
+static size_t room_count = FENNHOP_READ_STORM, text_count = sizeof text, table_count = FENNHOP_FACTORS;
 
 /* The march's two calls, and with how many points they are made: those nearest to the shore. */
 static struct march {
@@ -73,6 +75,20 @@ static void make_record(void)
                                FENNHOP_SITES_STRIDE * POINTS, room, room_count, answer, FENNHOP_ANSWER);
 }
 
+static void make_record_with(void)
+{
+    frame = __builtin_frame_address(0);
+    told = fennhop_make_record_with(factors, FENNHOP_FACTORS, central_pressure, 2992, 403, -300, 403, 600, 0, winds,
+                                    FENNHOP_WINDS_STRIDE * WINDS, sites, FENNHOP_SITES_STRIDE * POINTS, room, room_count, answer,
+                                    FENNHOP_ANSWER);
+}
+
+static void load_profile(void)
+{
+    frame = __builtin_frame_address(0);
+    told = fennhop_load_profile((const uint8_t *)profile, profile_bytes, table_room, table_count, answer, FENNHOP_ANSWER);
+}
+
 static void read_deck(void)
 {
     frame = __builtin_frame_address(0);
@@ -119,6 +135,17 @@ static void write_texts(void)
     traverse_bytes = (size_t)t;
     storm_bytes = (size_t)s;
     deck_bytes = (size_t)d;
+}
+
+/* A table that falls by nine and ends far above 0, and its text. */
+static void write_profile(void)
+{
+    int p = sprintf(profile, "factor\n");
+    for (int m = 0; m < FENNHOP_FACTORS; m++) {
+        factors[m] = 10000 - 9 * m;
+        p += sprintf(profile + p, "%" PRId64 "\n", factors[m]);
+    }
+    profile_bytes = (size_t)p;
 }
 
 /* The longest list of winds, and points from beyond its last radius to inside its first. */
@@ -178,16 +205,41 @@ static long of_taking(struct march calls)
     return bytes;
 }
 
-/* A record that is made, and one refused by the first and by the last check. */
-static long of_making(void)
+/* A record that is made, and one refused by the first and by the last check of its numbers. */
+static long of_making(void (*make)(void))
 {
-    long bytes = used(make_record, 0);
+    long bytes = used(make, 0);
     central_pressure = 2499;
-    bytes = most(bytes, used(make_record, FENNHOP_REFUSED_STORM_VALUE));
+    bytes = most(bytes, used(make, FENNHOP_REFUSED_STORM_VALUE));
     central_pressure = 2757;
     room_count = FENNHOP_READ_STORM - 1;
-    bytes = most(bytes, used(make_record, FENNHOP_REFUSED_LENT));
+    bytes = most(bytes, used(make, FENNHOP_REFUSED_LENT));
     room_count = FENNHOP_READ_STORM;
+    return bytes;
+}
+
+/* The same by a table that is lent, and one refused for the table's last entry. */
+static long of_making_with(void)
+{
+    long bytes = of_making(make_record_with);
+    int64_t kept = factors[FENNHOP_FACTORS - 1];
+    factors[FENNHOP_FACTORS - 1] = -1;
+    bytes = most(bytes, used(make_record_with, FENNHOP_REFUSED_PROFILE_ENTRY));
+    factors[FENNHOP_FACTORS - 1] = kept;
+    return bytes;
+}
+
+/* A table that is loaded, and one refused for its names line, in its last line, without its last entry, and where it has no room. */
+static long of_loading(void)
+{
+    long bytes = of_reading(load_profile, &profile_bytes);
+    size_t whole = profile_bytes;
+    profile_bytes -= sizeof "1000\n" - 1;
+    bytes = most(bytes, used(load_profile, FENNHOP_REFUSED_PROFILE_ENTRY));
+    profile_bytes = whole;
+    table_count--;
+    bytes = most(bytes, used(load_profile, FENNHOP_REFUSED_LENT));
+    table_count++;
     return bytes;
 }
 
@@ -211,17 +263,19 @@ static long of_deck(void)
 int main(void)
 {
     write_texts();
+    write_profile();
     place_points();
     for (int round = 0; round < 2; round++) {
         long reading_traverse = of_reading(read_traverse, &traverse_bytes), reading_record = of_reading(read_record, &storm_bytes);
         long opening = of_opening(program), taking = of_taking(program), panel_opening = of_opening(panel), panel_taking = of_taking(panel);
-        long making = of_making(), converting = of_deck();
+        long making = of_making(make_record), making_with = of_making_with(), loading = of_loading(), converting = of_deck();
         if (round == 0)
             continue;
         printf("fennhop_open_traverse %ld\nfennhop_take_record %ld\n", opening, taking);
         printf("fennhop_panel_open_traverse %ld\nfennhop_panel_take_record %ld\n", panel_opening, panel_taking);
         printf("fennhop_read_traverse %ld\nfennhop_read_record %ld\n", reading_traverse, reading_record);
-        printf("fennhop_make_record %ld\nfennhop_read_deck %ld\n", making, converting);
+        printf("fennhop_make_record %ld\nfennhop_make_record_with %ld\n", making, making_with);
+        printf("fennhop_load_profile %ld\nfennhop_read_deck %ld\n", loading, converting);
     }
     return 0;
 }

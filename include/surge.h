@@ -31,6 +31,12 @@
  * angle is the one given, or 0 where the wind is 0. Seconds and tide are passed on as they are given: they, and the elapsed time, may
  * still be refused by fennhop_take_record (9, place 0). Every other number of a record that was made passes checks 9 and 18.
  *
+ * A PRESSURE PROFILE OF YOUR OWN takes the place of e^(-R/r), which is Myers'. Its table has FENNHOP_FACTORS entries, by hundredths of R/r
+ * from 0 to 10: at each, in ten-thousandths, the part of (edge - centre) by which the pressure still lies below the edge's is 10,000 less
+ * the entry. Entry 0 is 10,000, no entry is above the one before it, and none is below 0. fennhop_load_profile reads the table from a
+ * text of a names line `factor` and a line for each entry; fennhop_make_record_with makes a record by any such table as
+ * fennhop_make_record does by its own, and judges it first (20), whoever made it.
+ *
  * AN OLD CARD DECK, the DIST and DEPTH cards of TM-50 as text and held whole by the caller, is turned into the text of traverse.txt by
  * fennhop_read_deck; latitude, friction and initial level are given. A card is a line: a word, a card number and one to six numbers,
  * one space between two of them and a line feed behind the last. A word is any bytes but space and line feed, a card number one to
@@ -106,6 +112,12 @@
  *            behind them stays as it was. The march's call is given FENNHOP_STORM_STRIDE times the points as its count: room of just
  *            so many numbers is handed on as it is, and answer[1] and answer[2] with it as seconds and tide.
  *
+ * and for a profile of your own:
+ *
+ *   text     bytes, uint8_t, only read; any bytes, any count.
+ *   factors  fennhop_load_profile: room for FENNHOP_FACTORS numbers or more, which a table that is accepted sets from its front on, entry
+ *            0 first; spare room behind them stays as it was. fennhop_make_record_with: the table, FENNHOP_FACTORS numbers, only read.
+ *
  * and for reading a deck:
  *
  *   deck     bytes, uint8_t, only read; any bytes, any count.
@@ -113,9 +125,10 @@
  *            behind it stays as it was. fennhop_read_traverse is given answer[1] as its count.
  *
  * WHAT A CALL RETURNS: 0 where it is accepted, else the number of the first refusal, with its place in answer[0] (lines, points, rows
- * and segments count from 1). Each number has a name below. The march's two calls make checks 5 to 9, 18 and 10 to 12 alone, in this
+ * and segments count from 1, entries of a profile from 0). Each number has a name below. The march's two calls make checks 5 to 9, 18 and 10 to 12 alone, in this
  * order, and on the panel 19 directly after 5; the two that read a text return 1 to 5 alone, fennhop_make_record 13, 14 and 8 alone,
- * and fennhop_read_deck 6, 3, 2, 15, 16, 17 and 8 alone, in the order told at each.
+ * fennhop_make_record_with 20 and then these, fennhop_load_profile 1, 2, 20 and 8 alone, and fennhop_read_deck 6, 3, 2, 15, 16, 17 and 8
+ * alone, in the order told at each.
  *
  *    1  a names line different, or the text empty                                    line; 1 if empty
  *    2  a value line malformed, or a wrong count of values                           line
@@ -130,8 +143,8 @@
  *    8  rows not one for each segment, points of the record not as many as of the
  *       traverse, setup neither 0 nor two numbers a segment (place 0); or a row
  *       whose low is above its high or that is past its limits                       row
- *       making a record, reading a deck: room for fewer numbers or bytes than it
- *       writes                                                                       0
+ *       making a record, loading a profile, reading a deck: room for fewer numbers
+ *       or bytes than it writes                                                      0
  *    9  a value of the record past its limits                                        point; 0 for seconds, tide, elapsed
  *   10  water depth past 100 to 100,000 (0.01 ft)                                    segment
  *   11  flux past its limits, though held                                            segment
@@ -144,6 +157,8 @@
  *   17  reading a deck: not as many depths as distances                              distances given
  *   18  a wind of 0 with an angle other than 0                                       point
  *   19  on the panel: 18 to 65 points                                                points given
+ *   20  a profile of your own: the first entry that is bad, missing or one too many
+ *       (entry 1,001)                                                                entry, from 0
  *
  * FENNHOP_WRONG_BUFFER: `state`, `answer`, or what a text is read into, is not as long as it has to be; no check was made and nothing
  * was written, the answer neither.
@@ -155,7 +170,7 @@
  *
  * A refused call writes nothing but its answer: state, rows and setup stay exactly as they were, so the caller may mend the record and
  * call again. A refused reading leaves head, points, cursor, values and storm exactly as they were, and a record that is not made
- * leaves its room so, as does a deck that is refused.
+ * leaves its room so, as does a deck or a profile that is refused.
  *
  * STACK that a call needs, from its caller's frame down, as measured on x86-64 (bench/stack.c) and rounded up to a multiple of 512.
  * What a dynamic linker needs to find memcpy the first time is not in it.
@@ -167,6 +182,8 @@
  *   fennhop_read_traverse       1,536 bytes
  *   fennhop_read_record         2,048 bytes
  *   fennhop_make_record           512 bytes
+ *   fennhop_make_record_with      512 bytes
+ *   fennhop_load_profile          512 bytes
  *   fennhop_read_deck             512 bytes
  */
 #ifndef FENNHOP_SURGE_H
@@ -180,8 +197,8 @@ extern "C" {
 #endif
 
 /* The version of this header and its library; the number is 10,000 * major + 100 * minor + patch. */
-#define FENNHOP_VERSION "3.0.0"
-#define FENNHOP_VERSION_NUMBER 30000
+#define FENNHOP_VERSION "3.1.0"
+#define FENNHOP_VERSION_NUMBER 30100
 
 /* The most points of a traverse, and the most segments between them; and the same on the panel. */
 #define FENNHOP_MOST_POINTS 65
@@ -191,6 +208,9 @@ extern "C" {
 
 /* The most rows of a list of winds. */
 #define FENNHOP_MOST_WINDS 50
+
+/* The entries of a table of factors. */
+#define FENNHOP_FACTORS 1001
 
 /* Numbers a point of `points`, a point of `storm`, a segment of `setup`, a row of `winds`, a point of `sites`. */
 #define FENNHOP_POINTS_STRIDE 2
@@ -228,6 +248,7 @@ extern "C" {
 #define FENNHOP_REFUSED_CARD_COUNTS 17    /* not as many depths of a deck as distances */
 #define FENNHOP_REFUSED_CALM_ANGLE 18     /* a wind of 0 with an angle other than 0 */
 #define FENNHOP_REFUSED_PANEL_POINTS 19   /* on the panel: more than 17 points, and no more than 65 */
+#define FENNHOP_REFUSED_PROFILE_ENTRY 20  /* an entry of a pressure profile that is bad, missing or one too many */
 
 /* Returned where an array that has one length is lent with another. */
 #define FENNHOP_WRONG_BUFFER 255
@@ -298,6 +319,23 @@ uint64_t fennhop_make_record(int64_t central_pressure, int64_t edge_pressure, in
                              const int64_t *sites, size_t sites_count,
                              int64_t *storm, size_t storm_count,
                              int64_t *answer, size_t answer_count);
+
+/* Loads the table of a pressure profile from its text. In this order: the length of answer, 255; the names line, 1; line by line 2, to
+ * the text's end; the entries, 20; the room, 8, place 0. Loaded: factors has the table, and answer has 0, 0, 0. Refused: factors is left
+ * as it was. */
+uint64_t fennhop_load_profile(const uint8_t *text, size_t text_count,
+                              int64_t *factors, size_t factors_count,
+                              int64_t *answer, size_t answer_count);
+
+/* Makes a record by the table in `factors`, which need not be a loaded one. In this order: the length of answer, 255; the table, 20; then
+ * all as fennhop_make_record, which does the same by its own table. */
+uint64_t fennhop_make_record_with(const int64_t *factors, size_t factors_count,
+                                  int64_t central_pressure, int64_t edge_pressure, int64_t radius, int64_t x, int64_t y,
+                                  int64_t seconds, int64_t tide,
+                                  const int64_t *winds, size_t winds_count,
+                                  const int64_t *sites, size_t sites_count,
+                                  int64_t *storm, size_t storm_count,
+                                  int64_t *answer, size_t answer_count);
 
 /* Turns an old card deck into the text of traverse.txt. In this order: the length of answer, 255; 6, place 0, for latitude, friction
  * and initial level; 3, place 0, for a deck of no bytes; then line by line 2, 15 and 16; 17; the room, 8, place 0. Accepted: the text

@@ -1,11 +1,11 @@
-/* Answers the requests of tests/calls.py, tests/make_calls.py and tests/deck_calls.py (their heads have the protocol) through the
- * product's libraries: opening a traverse and taking a record, on the harbour panel too, making a record, reading a deck through
- * libsurge_c.a as any customer's program would, the functions below the march through libprobe.a. `segment` is not exported and is
- * answered `skip`.
+/* Answers the requests of tests/calls.py, tests/make_calls.py, tests/deck_calls.py and tests/profile_calls.py (their heads have the
+ * protocol) through the product's libraries: opening a traverse and taking a record, on the harbour panel too, making a record, by a
+ * table that is lent too, loading such a table, reading a deck through libsurge_c.a as any customer's program would, the functions
+ * below the march through libprobe.a. `segment` is not exported and is answered `skip`.
  *
  * Every array that is lent stands between two guard numbers, the rows between two guard rows, a text between guard bytes, and arrays
- * that are only read are compared with a copy after the call; a number changed outside of what was lent ends the driver. Behind a deck
- * is a page that cannot be read. */
+ * that are only read are compared with a copy after the call; a number changed outside of what was lent ends the driver. Behind a deck,
+ * the text of a table and the factors of one is a page that cannot be read. */
 #include <errno.h>
 #include <inttypes.h>
 #include <stdio.h>
@@ -284,15 +284,65 @@ static void write_room(void)
     memset(blank_room, 0, FIRST * sizeof(int64_t));
 }
 
-static void make_record(void)
+/* Factors in front of a page that cannot be read, with a copy of what was lent. */
+enum { FACTORS = 200000 };
+static struct {
+    int64_t copy[FACTORS], *end;
+    const int64_t *numbers;
+    size_t count;
+} factors;
+
+/* COUNT and so many factors; above 200,000 the count alone, and blank pages. */
+static void fill_factors(void)
 {
+    factors.count = (size_t)number();
+    factors.numbers = blank;
+    if (factors.count > FACTORS) {
+        if (factors.count > BLANK)
+            fail("a count of factors is larger than the driver's blank pages");
+        return;
+    }
+    int64_t *lent = factors.end - factors.count;
+    for (size_t i = 0; i < factors.count; i++)
+        lent[i] = factors.copy[i] = number();
+    lent[-1] = GUARD;
+    factors.numbers = factors.count ? lent : NULL;
+}
+
+static void unchanged_factors(void)
+{
+    if (factors.numbers == blank)
+        return;
+    const int64_t *lent = factors.end - factors.count;
+    if (lent[-1] != GUARD || memcmp(lent, factors.copy, factors.count * sizeof(int64_t)))
+        fail("a factor, or the number before them, was changed");
+}
+
+/* Blank pages are lent as they are. */
+static int64_t *lend_room(void)
+{
+    return room.numbers == blank_room ? blank_room : lend(&room);
+}
+
+/* By the table of the request, or by the library's own. */
+static void make_record(int with_factors)
+{
+    if (with_factors)
+        fill_factors();
     int64_t centre = number(), edge = number(), radius = number(), x = number(), y = number(), seconds = number(), tide = number();
     array(&winds, blank);
     array(&sites, blank);
     array(&room, blank_room);
     fill(&answer, (size_t)number());
-    uint64_t n = fennhop_make_record(centre, edge, radius, x, y, seconds, tide, given(&winds), winds.count, given(&sites), sites.count,
-                                     room.numbers == blank_room ? blank_room : lend(&room), room.count, lend(&answer), answer.count);
+    uint64_t n;
+    if (with_factors) {
+        n = fennhop_make_record_with(factors.numbers, factors.count, centre, edge, radius, x, y, seconds, tide, given(&winds),
+                                     winds.count, given(&sites), sites.count, lend_room(), room.count, lend(&answer), answer.count);
+        unchanged_factors();
+    } else {
+        n = fennhop_make_record(centre, edge, radius, x, y, seconds, tide, given(&winds), winds.count, given(&sites), sites.count,
+                                lend_room(), room.count, lend(&answer), answer.count);
+    }
     check_given(&winds);
     check_given(&sites);
     guarded(&answer);
@@ -305,40 +355,45 @@ static void make_record(void)
 /* Bytes of a request, and guards beside them. */
 enum { BYTES = 4000000, FIRST_BYTES = 1000, FENCE = 64, FENCE_BYTE = 0x5b };
 
-/* The deck, in front of a page that cannot be read, with a copy of what was lent. */
+/* A deck or the text of a table, in front of a page that cannot be read, with a copy of what was lent. */
 static struct {
     uint8_t copy[BYTES], *end;
     size_t count;
-} cards;
+} bytes;
 
-static int all_fence(const uint8_t *bytes)
+static int all_fence(const uint8_t *fence)
 {
     for (int i = 0; i < FENCE; i++)
-        if (bytes[i] != FENCE_BYTE)
+        if (fence[i] != FENCE_BYTE)
             return 0;
     return 1;
 }
 
 /* Two hex digits a byte, `-` for no byte. */
-static void fill_deck(void)
+static void fill_bytes(void)
 {
     static const char hex[] = "0123456789abcdef";
     at += *at == ' ';
-    cards.count = strspn(at, hex) / 2;
-    if (cards.count > BYTES)
-        fail("a deck of the request is too long for the driver");
-    for (size_t i = 0; i < cards.count; i++)
-        cards.copy[i] = (uint8_t)(16 * (strchr(hex, at[2 * i]) - hex) + (strchr(hex, at[2 * i + 1]) - hex));
-    memcpy(cards.end - cards.count, cards.copy, cards.count);
-    memset(cards.end - cards.count - FENCE, FENCE_BYTE, FENCE);
+    bytes.count = strspn(at, hex) / 2;
+    if (bytes.count > BYTES)
+        fail("a text of the request is too long for the driver");
+    for (size_t i = 0; i < bytes.count; i++)
+        bytes.copy[i] = (uint8_t)(16 * (strchr(hex, at[2 * i]) - hex) + (strchr(hex, at[2 * i + 1]) - hex));
+    memcpy(bytes.end - bytes.count, bytes.copy, bytes.count);
+    memset(bytes.end - bytes.count - FENCE, FENCE_BYTE, FENCE);
 }
 
-static void unchanged_deck(void)
+static const uint8_t *lend_bytes(void)
 {
-    if (!all_fence(cards.end - cards.count - FENCE))
-        fail("a byte beside the deck was changed");
-    if (memcmp(cards.end - cards.count, cards.copy, cards.count))
-        fail("the deck was changed");
+    return bytes.count ? bytes.end - bytes.count : NULL;
+}
+
+static void unchanged_bytes(void)
+{
+    if (!all_fence(bytes.end - bytes.count - FENCE))
+        fail("a byte before the text that is read was changed");
+    if (memcmp(bytes.end - bytes.count, bytes.copy, bytes.count))
+        fail("the text that is read was changed");
 }
 
 static uint8_t text_space[FENCE + BYTES + FENCE];
@@ -396,10 +451,9 @@ static void read_deck(void)
     size_t room_count = (size_t)number();
     uint8_t *text = lend_text(room_count);
     fill(&answer, (size_t)number());
-    fill_deck();
-    uint64_t n = fennhop_read_deck(latitude, friction, initial, cards.count ? cards.end - cards.count : NULL, cards.count, text,
-                                   room_count, lend(&answer), answer.count);
-    unchanged_deck();
+    fill_bytes();
+    uint64_t n = fennhop_read_deck(latitude, friction, initial, lend_bytes(), bytes.count, text, room_count, lend(&answer), answer.count);
+    unchanged_bytes();
     guarded(&answer);
     printf("%" PRIu64, n);
     write_all(&answer);
@@ -413,6 +467,59 @@ static void read_deck(void)
     putchar('\n');
     if (text == blank_text)
         memset(text, 0, FIRST_BYTES);
+}
+
+/* What is lent as room for a table: numbers that no table has, or noughts of blank pages. */
+static int64_t lent_number(size_t i)
+{
+    return room.numbers == blank_room ? 0 : -8000001 - (int64_t)i;
+}
+
+static void lend_numbers(size_t count)
+{
+    if (count > BLANK)
+        fail("a count of numbers is larger than the driver's blank pages");
+    fill(&room, 0);
+    room.count = count;
+    if (count > WHOLE) {
+        room.numbers = blank_room;
+        return;
+    }
+    for (size_t i = 0; i < count; i++)
+        room.space[i + 1] = lent_number(i);
+    room.space[count + 1] = GUARD;
+}
+
+/* The room up to the last number that is not as it was lent; blank pages are set to 0 again. */
+static void write_left(void)
+{
+    size_t looked_at = room.count, left = 0;
+    if (room.numbers == blank_room)
+        looked_at = OPEN / sizeof(int64_t);
+    else
+        guarded(&room);
+    for (size_t i = 0; i < looked_at; i++)
+        if (room.numbers[i] != lent_number(i))
+            left = i + 1;
+    printf(" %zu", left);
+    for (size_t i = 0; i < left; i++)
+        printf(" %" PRId64, room.numbers[i]);
+    if (room.numbers == blank_room)
+        memset(blank_room, 0, left * sizeof(int64_t));
+}
+
+static void load_profile(void)
+{
+    lend_numbers((size_t)number());
+    fill(&answer, (size_t)number());
+    fill_bytes();
+    uint64_t n = fennhop_load_profile(lend_bytes(), bytes.count, lend_room(), room.count, lend(&answer), answer.count);
+    unchanged_bytes();
+    guarded(&answer);
+    printf("%" PRIu64, n);
+    write_all(&answer);
+    write_left();
+    putchar('\n');
 }
 
 static void write_pair(const int64_t *r)
@@ -486,7 +593,11 @@ static void request(char *text)
     else if (!strcmp(word, "panel_open"))
         open_traverse(fennhop_panel_open_traverse);
     else if (!strcmp(word, "make"))
-        make_record();
+        make_record(0);
+    else if (!strcmp(word, "make_with"))
+        make_record(1);
+    else if (!strcmp(word, "profile"))
+        load_profile();
     else if (!strcmp(word, "deck"))
         read_deck();
     else if (!strcmp(word, "force"))
@@ -520,13 +631,13 @@ static void *zeros(void)
     return pages;
 }
 
-/* The end of pages for a deck, the last of which cannot be read. */
-static uint8_t *deck_pages(void)
+/* The end of pages for so many bytes and what stands before them; what is behind it cannot be read. */
+static void *end_of_pages(size_t count)
 {
-    const size_t page = 1 << 16, size = BYTES / page * page + 2 * page;
+    const size_t page = 1 << 16, size = count / page * page + 2 * page;
     uint8_t *pages = mmap(NULL, size + page, PROT_READ | PROT_WRITE, MAP_PRIVATE | MAP_ANONYMOUS, -1, 0);
     if (pages == MAP_FAILED || mprotect(pages + size, page, PROT_NONE))
-        fail("no pages for a deck");
+        fail("no pages for a text or for factors");
     return pages + size;
 }
 
@@ -544,7 +655,8 @@ int main(void)
     if (mprotect(blank_rows, OPEN, PROT_READ | PROT_WRITE) || mprotect(blank_room, OPEN, PROT_READ | PROT_WRITE) ||
         mprotect(blank_text, OPEN, PROT_READ | PROT_WRITE))
         fail("no blank rows, room or text");
-    cards.end = deck_pages();
+    bytes.end = end_of_pages(BYTES);
+    factors.end = end_of_pages(sizeof factors.copy);
     while (getline(&text, &size, stdin) > 0)
         request(text);
     if (ferror(stdin) || fflush(stdout))

@@ -3,22 +3,27 @@
 # implementation: expected.txt is its listing, the tables of examples/c/hurricane.c
 # and of the example's README are what the cards give. published.csv has the heights
 # that TM-35 prints, as far as the rows they stand in bear them out. The two files of
-# examples/panel and the tables of examples/c/panel.c are the same storm's.
+# examples/panel and the tables of examples/c/panel.c are the same storm's. The table,
+# the listing and the README of examples/profile are the same storm's by Holland's
+# pressure profile.
 #
 #   python3 hurricane_example.py              compares; ends with `N passed, M failed`
 #   python3 hurricane_example.py --listing    prints the listing, for expected.txt
+#   python3 hurricane_example.py --profile    the same for examples/profile
 #   python3 hurricane_example.py --traverse   prints examples/panel/traverse.txt
 #   python3 hurricane_example.py --storm      prints examples/panel/storm.txt
 #
-# It needs model/hurricane.py: Hurricane, Place, records and listing.
+# It needs model/hurricane.py: Hurricane, Place, records, listing and what a deficit is
+# made of; and of model/profile.py load.
 
 import os
 import re
+import subprocess
 import sys
 from fractions import Fraction
-from math import ceil
+from math import ceil, isqrt
 
-from model import hurricane, march
+from model import hurricane, march, profile
 from model.forcing import stress
 from model.ranges import floor
 
@@ -67,6 +72,8 @@ STOT = (
 START, LEFT, BEHIND, STATUTE = 377, 35, 390, Fraction("1.1508")
 # The hours at which it shows the heights that TM-35 prints beside those here.
 SHOWN = "0 4 7 10 13 15 16.5 17.5 20 22.5 25.5 28 30.5"
+# Those at which the README of examples/profile shows two profiles side by side.
+SIDE_BY_SIDE = "0 4 8 12.5 15 16 16.5 17 17.5 18.5 20 22 25.5 30.5"
 
 
 def numbers(text):
@@ -143,8 +150,8 @@ def track():
     return [place(record, rows) for record in range(NM)]
 
 
-def listing():
-    return hurricane.listing(traverse(), track())
+def listing(table=None):
+    return hurricane.listing(traverse(), track(), table=table)
 
 
 def lines(names, rows):
@@ -172,6 +179,38 @@ def printed():
         if abs(setup - x - y) <= Fraction("0.02") or abs(setup - wind) <= Fraction("0.01"):
             heights[row * Fraction(DELT)] = total
     return heights
+
+
+# Holland's profile, B = 1.5
+
+
+def holland_entry(m):
+    """The whole number nearest to 10,000 e^(-(m/100)^1.5), and how far from the middle
+    between two: in whole numbers, to some 50 digits, by the series of e^x."""
+    unit = 10**60
+    # (m/100)^1.5 is the root of m^3, over 1,000
+    x = isqrt(m**3 * unit**2) // 1000
+    term = total = unit
+    for k in range(1, 200):
+        term = term * x // (k * unit)
+        total += term
+    value = Fraction(10_000 * unit, total)
+    return nearest(value), Fraction(1, 2) - abs(value - nearest(value))
+
+
+def holland():
+    """The table in examples/profile/holland.txt, by the second implementation's reader."""
+    return profile.load(text_of("examples", "profile", "holland.txt").encode(), [0] * profile.FACTORS)
+
+
+def made_table(exponent):
+    """What the example's script prints."""
+    script = os.path.join(HOME, "examples", "profile", "make_table.py")
+    return subprocess.run([sys.executable, script, exponent], stdout=subprocess.PIPE, check=True, text=True).stdout
+
+
+def table_text(entries):
+    return "".join("%s\n" % line for line in ["factor", *entries])
 
 
 # What stands in the example
@@ -242,11 +281,14 @@ def records(made):
     return [[int(word) for word in line.split()] for line in made.decode().splitlines()[1:]]
 
 
+def when(seconds):
+    return "%d h %d min (%d s)" % (seconds // 3600, seconds % 3600 // 60, seconds)
+
+
 def crest(made):
     """The crest in the README's words."""
     record, (seconds, low, high) = max(enumerate(records(made), 1), key=lambda line: line[1][2])
-    hours = "%d h %d min (%d s)" % (seconds // 3600, seconds % 3600 // 60, seconds)
-    return "%.4f to %.4f ft at %s, record %d" % (low / 10_000, high / 10_000, hours, record)
+    return "%.4f to %.4f ft at %s, record %d" % (low / 10_000, high / 10_000, when(seconds), record)
 
 
 def published(made):
@@ -269,9 +311,79 @@ def published(made):
         yield "README: " + row, row.replace("-", "−") in readme, True
 
 
+def tables():
+    """The table of the example: each entry, how the script makes it, and ours by it."""
+    entries, middles = zip(*map(holland_entry, range(1001)))
+    yield "holland.txt", text_of("examples", "profile", "holland.txt"), table_text(entries)
+    yield "a middle nearer than the README says", min(middles) >= Fraction("0.0003"), True
+    yield "make_table.py 1.5", made_table("1.5"), table_text(entries)
+    yield "make_table.py 1", made_table("1"), table_text(hurricane.entry(m) for m in range(1001))
+    yield "holland.txt as it is read", holland(), list(entries)
+
+
+def middle(line):
+    return Fraction(line[1] + line[2], 20_000)
+
+
+def feet(value, places):
+    return ("%+.*f" % (places, value)).replace("-", "−")
+
+
+def at_shore(places, table):
+    """Record by record: R/r at the shore in hundredths, and the deficit there."""
+    for place in places:
+        r = hurricane.distance(place.hurricane, place.sites[-1])
+        yield hurricane.hundredths(place.hurricane.radius, r), hurricane.deficit(place.hurricane, r, table)
+
+
+def side_by_side(myers, other):
+    """What the README of examples/profile says of both listings."""
+    readme = text_of("examples", "profile", "README.md")
+    places = track()
+    ours, theirs = list(at_shore(places, hurricane.own_table())), list(at_shore(places, holland()))
+    moved = [middle(b) - middle(a) for a, b in zip(records(myers), records(other))]
+    # by the pressure setup at the shore, 1.14 ft an inch
+    rest = max(abs(m - Fraction("0.0114") * (b[1] - a[1])) for m, a, b in zip(moved, ours, theirs))
+    yield "what moves beside the pressure setup", feet(rest, 3), "+0.011"
+    number, most = max(enumerate(moved, 1), key=lambda one: abs(one[1]))
+    yield "README: largest difference", "difference is %s ft, at %s, record %d" % (
+        feet(most, 4), when(records(myers)[number - 1][0]), number) in readme, True
+    for name, made in ("Myers' profile the crest is", myers), ("Holland's it is", other):
+        yield "README: crest, " + name, "%s %s" % (name, crest(made)) in readme, True
+    # at the start, and where the centre passes in distance R
+    yield "README: at the start", (feet(moved[0], 2), ours[34], theirs[34]), ("−0.16", (99, 147), (99, 147))
+    yield "entries at r = R", (hurricane.entry(100), holland()[100]), (3679, 3679)
+    yield "README: then apart", feet(moved[34], 3), "+0.004"
+    yield "records with the shore inside R", [m for m, _ in ours if m > 100], []
+    yield from side_by_side_rows(readme.splitlines(), ours, theirs, records(myers), records(other))
+
+
+def side_by_side_rows(readme, ours, theirs, myers, other):
+    """The rows of its table."""
+    shown = [int(2 * hours) for hours in numbers(SIDE_BY_SIDE)]
+
+    def to_thousandths(lines):
+        return [Fraction(nearest(1000 * middle(line)), 1000) for line in lines]
+
+    first, second = to_thousandths(myers), to_thousandths(other)
+    for name, form, values in (
+        ("hours", "%g", [Fraction(record, 2) for record in range(NM)]),
+        ("R/r at the shore", "%.2f", [Fraction(m, 100) for m, _ in ours]),
+        ("deficit there by Myers, inches", "%.2f", [Fraction(d, 100) for _, d in ours]),
+        ("deficit there by Holland, inches", "%.2f", [Fraction(d, 100) for _, d in theirs]),
+        ("Myers, ft", "%.3f", first), ("Holland, ft", "%.3f", second),
+        ("Holland less Myers, ft", "%+.3f", [b - a for a, b in zip(first, second)]),
+    ):
+        row = "| %s | %s |" % (name, " | ".join(form % values[record] for record in shown))
+        yield "README: " + row, row.replace("-", "−") in readme, True
+
+
 def main():
     if sys.argv[1:] in (["--traverse"], ["--storm"]):
         sys.stdout.write(traverse_text() if sys.argv[1] == "--traverse" else storm_text())
+        return 0
+    if sys.argv[1:] == ["--profile"]:
+        sys.stdout.buffer.write(listing(holland()))
         return 0
     made = listing()
     if sys.argv[1:] == ["--listing"]:
@@ -286,6 +398,10 @@ def main():
     checks += [("README: " + row, row in readme.splitlines(), True) for row in readme_rows()]
     checks += published(made)
     checks.append(("README: crest " + crest(made), "crest is %s." % crest(made) in readme, True))
+    by_holland = listing(holland())
+    checks.append(("profile/expected.txt", text_of("examples", "profile", "expected.txt").encode(), by_holland))
+    checks += tables()
+    checks += side_by_side(made, by_holland)
     wrong = [check for check in checks if check[1] != check[2]]
     for what, found, wanted in wrong:
         print("%s: found %s, not %s" % (what, found, wanted))

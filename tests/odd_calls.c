@@ -1,5 +1,5 @@
 /* Calls of the library that only a program in another language can make: counts that are no multiple of a point, any count of rows, a
- * `state` or `answer` of another length, no numbers at all, the ends of int64_t, arrays and decks at the end of what can be read. The
+ * `state` or `answer` of another length, no numbers at all, the ends of int64_t, arrays and texts at the end of what can be read. The
  * march's two calls and the harbour panel's go through the same tests. Every array lies between guard numbers, a text between guard
  * bytes, and is compared with a copy. */
 #include <inttypes.h>
@@ -26,6 +26,12 @@ static const int64_t record_made[] = {1000, 900, 300, 999, 1800, 189, 999, 3599,
 static const char deck[] = "DIST 1 1 .0\nDEPTH 01 50.\nDEPTH 2 00050.00\n";
 static const char deck_text[] = "latitude friction initial\n300 25 0\ndistance depth\n10 500\n0 500\n";
 enum { DECK = sizeof deck - 1, DECK_TEXT = sizeof deck_text - 1 };
+/* a profile that falls by 9 an entry, more than the 1,001 entries; its text; and what is made with it */
+enum { FACTORS = FENNHOP_FACTORS, TABLE = FACTORS + 9, LINE = 6 };
+static int64_t table[TABLE];
+static char table_text[sizeof "factor\n" + LINE * TABLE];
+static size_t line_end[TABLE + 1]; /* where the line of each entry ends, that of the names line first */
+static const int64_t record_made_with[] = {1000, 900, 270, 999, 1800, 27, 999, 3599, 27};
 /* a traverse and a record of more points than any; so many at their end are those of fewer */
 static int64_t long_points[2 * LONG], long_first[3 * LONG];
 
@@ -46,6 +52,8 @@ static fennhop_row row_space[ROOM], rows_were[ROOM];
 static fennhop_row *const rows = row_space + 1;
 static uint8_t byte_space[ROOM], bytes_were[ROOM];
 static uint8_t *const text = byte_space + 1;
+static int64_t factor_space[TABLE + 2], factors_were[TABLE + 2];
+static int64_t *const factors = factor_space + 1;
 
 /* Takes a copy of all that is lent. */
 static void keep(void)
@@ -53,6 +61,7 @@ static void keep(void)
     memcpy(was, space, sizeof was);
     memcpy(rows_were, row_space, sizeof rows_were);
     memcpy(bytes_were, byte_space, sizeof bytes_were);
+    memcpy(factors_were, factor_space, sizeof factors_were);
 }
 
 /* A fresh state, so many fresh rows, and guards in all other places. */
@@ -64,6 +73,8 @@ static void prepare(size_t fresh)
         row_space[i] = (fennhop_row){GUARD, GUARD, GUARD};
         byte_space[i] = GUARD_BYTE;
     }
+    for (int i = 0; i < TABLE + 2; i++)
+        factor_space[i] = GUARD;
     state[0] = state[1] = 0;
     for (size_t i = 0; i < fresh; i++)
         rows[i] = (fennhop_row){0, 0, 0};
@@ -98,17 +109,30 @@ static int same_text(size_t count)
     return byte_space[0] == bytes_were[0] && !memcmp(byte_space + 1 + count, bytes_were + 1 + count, ROOM - 1 - count);
 }
 
+/* All but the first `count` factors are as they were. */
+static int same_factors(size_t count)
+{
+    return factor_space[0] == factors_were[0] &&
+           !memcmp(factor_space + 1 + count, factors_were + 1 + count, (TABLE + 1 - count) * sizeof(int64_t));
+}
+
+/* Nothing that is lent was changed, the answer set aside. */
+static int all_same(void)
+{
+    return same(STATE, 0) && same_rows(0) && same(SETUP, 0) && same(STORM, 0) && same_text(0) && same_factors(0);
+}
+
 /* A refusal: number and place, and nothing changed but the answer's three numbers. */
 static void refused(const char *what, uint64_t got, uint64_t number, int64_t place)
 {
     expect(what, got == number && answer[0] == place && answer[1] == 0 && answer[2] == 0);
-    expect(what, same(STATE, 0) && same_rows(0) && same(SETUP, 0) && same(STORM, 0) && same_text(0) && same(ANSWER, FENNHOP_ANSWER));
+    expect(what, all_same() && same(ANSWER, FENNHOP_ANSWER));
 }
 
 static void untouched(const char *what, uint64_t got)
 {
     expect(what, got == FENNHOP_WRONG_BUFFER);
-    expect(what, same(STATE, 0) && same_rows(0) && same(SETUP, 0) && same(STORM, 0) && same_text(0) && same(ANSWER, 0));
+    expect(what, all_same() && same(ANSWER, 0));
 }
 
 static uint64_t take(const struct pair *by, size_t points_count, size_t storm_count, size_t state_count, size_t rows_count,
@@ -142,6 +166,22 @@ static uint64_t make(size_t winds_count, size_t sites_count, size_t storm_count,
                                sites_count, storm_count ? storm : NULL, storm_count, answer_count ? answer : NULL, answer_count);
 }
 
+static uint64_t make_with(const int64_t *lent, size_t lent_count, size_t winds_count, size_t sites_count, size_t storm_count,
+                          size_t answer_count)
+{
+    prepare(0);
+    return fennhop_make_record_with(lent_count ? lent : NULL, lent_count, 2800, 3100, 401, 0, 0, 1800, -35, winds_count ? winds : NULL,
+                                    winds_count, sites_count ? sites : NULL, sites_count, storm_count ? storm : NULL, storm_count,
+                                    answer_count ? answer : NULL, answer_count);
+}
+
+static uint64_t load(const void *bytes, size_t bytes_count, size_t room, size_t answer_count)
+{
+    prepare(0);
+    return fennhop_load_profile(bytes_count ? bytes : NULL, bytes_count, room ? factors : NULL, room, answer_count ? answer : NULL,
+                                answer_count);
+}
+
 static uint64_t read_deck(size_t deck_count, size_t text_count, size_t answer_count)
 {
     prepare(0);
@@ -164,6 +204,7 @@ static void header(void)
     expect("the refusals of making a record", FENNHOP_REFUSED_STORM_VALUE == 13 && FENNHOP_REFUSED_WIND_RADII == 14);
     expect("the refusals of reading a deck", FENNHOP_REFUSED_CARD_ORDER == 15 && FENNHOP_REFUSED_CARD_UNIT == 16 &&
                                                  FENNHOP_REFUSED_CARD_COUNTS == 17);
+    expect("the refusal of a profile, and its entries", FENNHOP_REFUSED_PROFILE_ENTRY == 20 && FENNHOP_FACTORS == 1001);
     expect("the refusal of a calm", FENNHOP_REFUSED_CALM_ANGLE == 18);
     expect("the panel's refusal and limits", FENNHOP_REFUSED_PANEL_POINTS == 19 && FENNHOP_PANEL_MOST_POINTS == 17 &&
                                                  FENNHOP_PANEL_MOST_SEGMENTS == 16);
@@ -493,13 +534,18 @@ static void too_long(const struct pair *by, size_t count, int64_t bad)
     untouched("too long, short answer", by->take(bad, bad, bad, line, n, bad, bad, line, 7, state, 2, rows, 200, setup, 3, answer, 2));
 }
 
-/* A record that was made of the first `count` points. */
-static void is_made(const char *what, uint64_t got, size_t count, int64_t seconds, int64_t tide)
+/* A record that was made of the first `count` points, as these numbers. */
+static void is_record(const char *what, uint64_t got, const int64_t *numbers_made, size_t count, int64_t seconds, int64_t tide)
 {
     size_t numbers = FENNHOP_STORM_STRIDE * count;
     expect(what, got == 0 && answer[0] == 0 && answer[1] == seconds && answer[2] == tide);
-    expect(what, !memcmp(storm, record_made, numbers * sizeof(int64_t)));
+    expect(what, !memcmp(storm, numbers_made, numbers * sizeof(int64_t)));
     expect(what, same(STATE, 0) && same_rows(0) && same(SETUP, 0) && same(STORM, numbers) && same(ANSWER, FENNHOP_ANSWER));
+}
+
+static void is_made(const char *what, uint64_t got, size_t count, int64_t seconds, int64_t tide)
+{
+    is_record(what, got, record_made, count, seconds, tide);
 }
 
 /* Counts of all that is lent to make a record, and none of it. */
@@ -707,6 +753,273 @@ static void very_long_deck(void)
     munmap(bytes, most);
 }
 
+/* The profile's entries and its text, a line for each. */
+static void write_table(void)
+{
+    line_end[0] = (size_t)sprintf(table_text, "factor\n");
+    for (int i = 0; i < TABLE; i++) {
+        table[i] = 10000 - 9 * i;
+        line_end[i + 1] = line_end[i] + (size_t)sprintf(table_text + line_end[i], "%" PRId64 "\n", table[i]);
+    }
+}
+
+/* The table, at the front of what was lent for it. */
+static void is_loaded(const char *what, uint64_t got)
+{
+    expect(what, got == 0 && answer[0] == 0 && answer[1] == 0 && answer[2] == 0);
+    expect(what, !memcmp(factors, table, FACTORS * sizeof(int64_t)));
+    expect(what, same(STATE, 0) && same_rows(0) && same(SETUP, 0) && same(STORM, 0) && same_text(0));
+    expect(what, same_factors(FACTORS) && same(ANSWER, FENNHOP_ANSWER));
+}
+
+/* Every beginning of the text of more entries than a table has, behind which nothing can be read, with and without room. */
+static void load_beginnings(void)
+{
+    static const size_t rooms[] = {0, FACTORS, TABLE};
+    const size_t most = line_end[TABLE];
+    char *copy = fenced_bytes(table_text, most, PROT_READ | PROT_WRITE);
+    if (!copy)
+        return;
+    for (int r = 0; r < 3; r++) {
+        size_t entries = 0;
+        for (size_t n = 0; n <= most; n++) {
+            char *lent = copy + most - n;
+            memcpy(lent, table_text, n);
+            if (n < line_end[0]) {
+                refused("a text without its names line", load(lent, n, rooms[r], 3), FENNHOP_REFUSED_NAMES, 1);
+                continue;
+            }
+            if (entries < TABLE && n == line_end[entries + 1])
+                entries++;
+            if (n != line_end[entries])
+                refused("a text that ends inside a line", load(lent, n, rooms[r], 3), FENNHOP_REFUSED_MALFORMED, entries + 2);
+            else if (entries != FACTORS)
+                refused("entries missing or too many", load(lent, n, rooms[r], 3), FENNHOP_REFUSED_PROFILE_ENTRY,
+                        entries < FACTORS ? entries : FACTORS);
+            else if (rooms[r] < FACTORS)
+                refused("no room for a table", load(lent, n, rooms[r], 3), FENNHOP_REFUSED_LENT, 0);
+            else
+                is_loaded("a table", load(lent, n, rooms[r], 3));
+        }
+    }
+}
+
+/* Every room; answers of another length; and none of it. */
+static void load_counts(void)
+{
+    const size_t whole = line_end[FACTORS];
+    for (size_t n = 0; n <= TABLE; n++)
+        if (n < FACTORS)
+            refused("room for a table", load(table_text, whole, n, 3), FENNHOP_REFUSED_LENT, 0);
+        else
+            is_loaded("room for a table", load(table_text, whole, n, 3));
+    for (size_t n = 0; n < 9; n++)
+        if (n != 3) {
+            untouched("an answer of another length, loading", load(table_text, whole, TABLE, n));
+            untouched("an answer of another length, no text", load(NULL, 0, 0, n));
+        }
+    refused("no text", load(NULL, 0, TABLE, 3), FENNHOP_REFUSED_NAMES, 1);
+    refused("an answer alone, loading", load(NULL, 0, 0, 3), FENNHOP_REFUSED_NAMES, 1);
+}
+
+/* A text that is refused, behind which nothing can be read, into a room that cannot be written. */
+static void load_refused(const char *bytes, size_t count, size_t room, uint64_t number, int64_t place)
+{
+    const uint8_t *lent = fenced_bytes(bytes, count, PROT_READ);
+    int64_t *shut = fenced(table, FACTORS);
+    if (!lent || !shut)
+        return;
+    prepare(0);
+    refused("a room that cannot be written, loading", fennhop_load_profile(lent, count, shut + FACTORS - room, room, answer, 3), number,
+            place);
+    prepare(0);
+    untouched("the same, an answer too short", fennhop_load_profile(lent, count, shut + FACTORS - room, room, answer, 2));
+}
+
+/* Nothing is read behind a text nor written behind the room, and a refused call writes no room: memory that cannot be written will do. */
+static void load_fenced(void)
+{
+    const size_t whole = line_end[FACTORS];
+    const uint8_t *lent = fenced_bytes(table_text, whole, PROT_READ);
+    int64_t *room = fenced_bytes(table + 1, FACTORS * sizeof(int64_t), PROT_READ | PROT_WRITE);
+    if (!lent || !room)
+        return;
+    prepare(0);
+    uint64_t n = fennhop_load_profile(lent, whole, room, FACTORS, answer, 3);
+    expect("fenced text and room", n == 0 && !memcmp(room, table, FACTORS * sizeof(int64_t)) && all_same() && same(ANSWER, 3));
+    load_refused("factors\n", 8, FACTORS, FENNHOP_REFUSED_NAMES, 1);
+    load_refused("\n", 1, FACTORS, FENNHOP_REFUSED_NAMES, 1);
+    load_refused("factor", 6, FACTORS, FENNHOP_REFUSED_NAMES, 1);
+    load_refused("factor\n", 7, FACTORS, FENNHOP_REFUSED_PROFILE_ENTRY, 0);
+    load_refused("factor\n10000\n", 13, FACTORS, FENNHOP_REFUSED_PROFILE_ENTRY, 1);
+    load_refused("factor\n10000\n9999\n10000\n", 24, FACTORS, FENNHOP_REFUSED_PROFILE_ENTRY, 2);
+    load_refused("factor\n9999\n", 12, 0, FENNHOP_REFUSED_PROFILE_ENTRY, 0);
+    load_refused("factor\n9999\n-0\n", 15, FACTORS, FENNHOP_REFUSED_MALFORMED, 3);
+    load_refused("factor\n10000\n-", 14, FACTORS, FENNHOP_REFUSED_MALFORMED, 3);
+    load_refused("factor\n10000\n5 ", 15, FACTORS, FENNHOP_REFUSED_MALFORMED, 3);
+    load_refused(table_text, whole - 1, FACTORS, FENNHOP_REFUSED_MALFORMED, FACTORS + 1);
+    load_refused(table_text, line_end[FACTORS - 1], FACTORS, FENNHOP_REFUSED_PROFILE_ENTRY, FACTORS - 1);
+    load_refused(table_text, line_end[FACTORS + 1], FACTORS, FENNHOP_REFUSED_PROFILE_ENTRY, FACTORS);
+    load_refused(table_text, line_end[FACTORS + 1] - 1, FACTORS, FENNHOP_REFUSED_MALFORMED, FACTORS + 2);
+    load_refused(table_text, whole, FACTORS - 1, FENNHOP_REFUSED_LENT, 0);
+}
+
+/* A text longer than 32 bits can count, whose names line, or whose first value line, is faulty from its first byte on. */
+static void very_long_text(void)
+{
+    const size_t wide = (size_t)1 << 32, most = wide + line_end[FACTORS];
+    uint8_t *bytes = mmap(NULL, most, PROT_READ | PROT_WRITE, MAP_PRIVATE | MAP_ANONYMOUS | MAP_NORESERVE, -1, 0);
+    if (bytes == MAP_FAILED) {
+        expect("pages for a text", 0);
+        return;
+    }
+    const size_t counts[] = {line_end[FACTORS], wide / 2, wide, wide + 7, most};
+    for (int i = 0; i < 5; i++)
+        refused("a very long text", load(bytes, counts[i], TABLE, 3), FENNHOP_REFUSED_NAMES, 1);
+    memcpy(bytes, table_text, line_end[0]);
+    for (int i = 0; i < 5; i++)
+        refused("a very long text with its names line", load(bytes, counts[i], TABLE, 3), FENNHOP_REFUSED_MALFORMED, 2);
+    munmap(bytes, most);
+}
+
+/* Every count of a table's entries, behind which nothing can be read. */
+static void table_counts(void)
+{
+    int64_t *copy = fenced_bytes(table, sizeof table, PROT_READ | PROT_WRITE);
+    if (!copy)
+        return;
+    for (size_t n = 0; n <= TABLE; n++) {
+        int64_t *lent = copy + TABLE - n;
+        memcpy(lent, table, n * sizeof(int64_t));
+        if (n == FACTORS)
+            is_record("a table", make_with(lent, n, 4, 9, 9, 3), record_made_with, 3, 1800, -35);
+        else
+            refused("entries of a table", make_with(lent, n, 4, 9, 9, 3), FENNHOP_REFUSED_PROFILE_ENTRY, n < FACTORS ? n : FACTORS);
+    }
+}
+
+/* The ends of int64_t in each entry, behind the table's end too, and in all. */
+static void table_ends(void)
+{
+    int64_t lent[TABLE];
+    for (int e = 0; e < 2; e++)
+        for (size_t i = 0; i < TABLE; i++) {
+            memcpy(lent, table, sizeof lent);
+            lent[i] = end[e];
+            refused("an end of int64_t, in a table", make_with(lent, i < FACTORS ? FACTORS : TABLE, 4, 9, 9, 3),
+                    FENNHOP_REFUSED_PROFILE_ENTRY, i < FACTORS ? i : FACTORS);
+        }
+    for (int e = 0; e < 2; e++) {
+        for (size_t i = 0; i < TABLE; i++)
+            lent[i] = end[e];
+        refused("a table of an end of int64_t", make_with(lent, TABLE, 4, 9, 9, 3), FENNHOP_REFUSED_PROFILE_ENTRY, 0);
+        lent[0] = 10000;
+        refused("a table of an end of int64_t, but for entry 0", make_with(lent, FACTORS, 4, 9, 9, 3), FENNHOP_REFUSED_PROFILE_ENTRY, 1);
+    }
+}
+
+/* Counts of all that is lent beside a table, and none of it; 20 comes before all but a wrong answer. */
+static void table_first(void)
+{
+    int64_t wrong[FACTORS];
+    memcpy(wrong, table, sizeof wrong);
+    wrong[FACTORS - 1] = -1;
+    for (size_t n = 0; n < 10; n++) {
+        if (n % FENNHOP_WINDS_STRIDE || n == 0)
+            refused("rows of a wind list, with a table", make_with(table, FACTORS, n, 6, 6, 3), FENNHOP_REFUSED_STORM_VALUE, 0);
+        if (n != 6 && n != 9)
+            refused("points, with a table", make_with(table, FACTORS, 4, n, 9, 3), FENNHOP_REFUSED_STORM_VALUE, 0);
+        if (n < 6)
+            refused("room for two points, with a table", make_with(table, FACTORS, 4, 6, n, 3), FENNHOP_REFUSED_LENT, 0);
+        else
+            is_record("two points, with a table", make_with(table, FACTORS, 4, 6, n, 3), record_made_with, 2, 1800, -35);
+        if (n != 3) {
+            untouched("an answer of another length, with a table", make_with(table, FACTORS, 4, 6, 6, n));
+            untouched("an answer of another length, no table", make_with(NULL, 0, 4, 6, 6, n));
+        }
+        refused("a bad table, and any winds", make_with(wrong, FACTORS, n, 6, 6, 3), FENNHOP_REFUSED_PROFILE_ENTRY, FACTORS - 1);
+        refused("a bad table, and any points", make_with(wrong, FACTORS, 4, n, 9, 3), FENNHOP_REFUSED_PROFILE_ENTRY, FACTORS - 1);
+        refused("no table, and any room", make_with(NULL, 0, 4, 6, n, 3), FENNHOP_REFUSED_PROFILE_ENTRY, 0);
+    }
+    untouched("nothing at all, with a table", make_with(NULL, 0, 0, 0, 0, 0));
+    refused("an answer alone, with a table", make_with(NULL, 0, 0, 0, 0, 3), FENNHOP_REFUSED_PROFILE_ENTRY, 0);
+    refused("a table and an answer", make_with(table, FACTORS, 0, 0, 0, 3), FENNHOP_REFUSED_STORM_VALUE, 0);
+    for (int e = 0; e < 2; e++) {
+        int64_t bad = end[e], list[4] = {bad, bad, bad, bad}, place[6] = {bad, bad, bad, bad, bad, bad};
+        prepare(0);
+        refused("a bad table, and ends of int64_t in all else",
+                fennhop_make_record_with(wrong, FACTORS, bad, bad, bad, bad, bad, bad, bad, list, 4, place, 6, storm, 6, answer, 3),
+                FENNHOP_REFUSED_PROFILE_ENTRY, FACTORS - 1);
+        refused("a table, and ends of int64_t in all else",
+                fennhop_make_record_with(table, FACTORS, bad, bad, bad, bad, bad, bad, bad, list, 4, place, 6, storm, 6, answer, 3),
+                FENNHOP_REFUSED_STORM_VALUE, 0);
+    }
+}
+
+/* A table that cannot be written and behind which nothing can be read, and a room that cannot be written where the call is refused. */
+static void table_fenced(void)
+{
+    static const int64_t level[] = {400, 1000, 400, 700};
+    const int64_t *lent = fenced(table, FACTORS), *tail = fenced(table + 1, FACTORS);
+    int64_t *shut = fenced(record_made, 6);
+    if (!lent || !tail || !shut)
+        return;
+    is_record("a fenced table", make_with(lent, FACTORS, 8, 9, 9, 3), record_made_with, 3, 1800, -35);
+    static const struct {
+        int64_t radius;
+        size_t left_out, room;
+        uint64_t number;
+        int64_t place;
+    } given[] = {{401, 1, 6, FENNHOP_REFUSED_PROFILE_ENTRY, 0}, {0, 0, 6, FENNHOP_REFUSED_STORM_VALUE, 0},
+                 {401, 0, 5, FENNHOP_REFUSED_LENT, 0}};
+    for (int i = 0; i < 3; i++) {
+        prepare(0);
+        refused("a room that cannot be written, with a table",
+                fennhop_make_record_with(lent + given[i].left_out, FACTORS - given[i].left_out, 2800, 3100, given[i].radius, 0, 0, 7, 8,
+                                         winds, 4, sites, 6, shut + 6 - given[i].room, given[i].room, answer, 3),
+                given[i].number, given[i].place);
+    }
+    prepare(0);
+    uint64_t n = fennhop_make_record_with(tail, FACTORS, 2800, 3100, 401, 0, 0, 7, 8, level, 4, sites, 6, shut, 6, answer, 3);
+    refused("a bad table and equal radii", n, FENNHOP_REFUSED_PROFILE_ENTRY, 0);
+    n = fennhop_make_record_with(lent, FACTORS, 2800, 3100, 401, 0, 0, 7, 8, level, 4, sites, 6, shut, 6, answer, 3);
+    refused("a table and equal radii", n, FENNHOP_REFUSED_WIND_RADII, 2);
+    n = fennhop_make_record_with(lent, FACTORS, 2800, 3100, 401, 0, 0, 7, 8, winds, 4, sites, 6, shut, 6, NULL, 0);
+    expect("a room that cannot be written, no answer", n == FENNHOP_WRONG_BUFFER);
+}
+
+/* Very many entries: noughts, of which entry 0 is bad, and then a table with very many behind it. */
+static void very_long_table(void)
+{
+    const size_t wide = (size_t)1 << 32, bytes = (wide + FACTORS) * sizeof(int64_t);
+    const size_t counts[] = {FACTORS + 1, 65536 + FACTORS, wide / 2, wide, wide + FACTORS};
+    int64_t *blank = mmap(NULL, bytes, PROT_READ | PROT_WRITE, MAP_PRIVATE | MAP_ANONYMOUS | MAP_NORESERVE, -1, 0);
+    if (blank == MAP_FAILED) {
+        expect("pages for a table", 0);
+        return;
+    }
+    for (int i = 0; i < 5; i++)
+        refused("very many noughts", make_with(blank, counts[i], 4, 6, 6, 3), FENNHOP_REFUSED_PROFILE_ENTRY, 0);
+    refused("a table of noughts", make_with(blank, FACTORS, 4, 6, 6, 3), FENNHOP_REFUSED_PROFILE_ENTRY, 0);
+    memcpy(blank, table, FACTORS * sizeof(int64_t));
+    for (int i = 0; i < 5; i++)
+        refused("very many entries", make_with(blank, counts[i], 4, 6, 6, 3), FENNHOP_REFUSED_PROFILE_ENTRY, FACTORS);
+    is_record("the table before them", make_with(blank, FACTORS, 4, 6, 6, 3), record_made_with, 2, 1800, -35);
+    munmap(blank, bytes);
+}
+
+/* What is loaded makes a record, and the march takes it. */
+static void loaded_and_made(void)
+{
+    is_loaded("a table to make a record with", load(table_text, line_end[FACTORS], TABLE, 3));
+    uint64_t n = fennhop_make_record_with(factors, FACTORS, 2800, 3100, 401, 0, 0, 0, 0, winds, 4, sites, 6, storm, 6, answer, 3);
+    is_record("a record by what was loaded", n, record_made_with, 2, 0, 0);
+    expect("the table as it was loaded", !memcmp(factors, table, FACTORS * sizeof(int64_t)) && same_factors(FACTORS));
+    rows[0] = (fennhop_row){0, 0, 0};
+    n = fennhop_take_record(300, 25, 0, points, 4, answer[1], answer[2], storm, 6, state, 2, rows, 1, NULL, 0, answer, 3);
+    expect("what was made is taken", n == 0 && state[1] == 1);
+}
+
 int main(void)
 {
     for (int i = 0; i < LONG; i++) {
@@ -742,5 +1055,16 @@ int main(void)
     deck_ends();
     deck_fenced();
     very_long_deck();
+    write_table();
+    load_beginnings();
+    load_counts();
+    load_fenced();
+    very_long_text();
+    table_counts();
+    table_ends();
+    table_first();
+    table_fenced();
+    very_long_table();
+    loaded_and_made();
     return summary();
 }

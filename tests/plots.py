@@ -27,8 +27,9 @@ from pathlib import Path
 ROOT = Path(__file__).resolve().parent.parent
 EXAMPLE = ROOT / "examples" / "hampton-beach"
 HURRICANE = ROOT / "examples" / "hurricane"
+PROFILE = ROOT / "examples" / "profile"
 TITLE = "Water level at the shore"
-USAGE = b"usage: tools/plot LISTING PICTURE.svg|PICTURE.png [GAUGE.csv]\n"
+USAGE = b"usage: tools/plot LISTING PICTURE.svg|PICTURE.png [GAUGE.csv|OTHER]\n"
 SIZE = 900, 600
 FONT = 14
 # A letter is less wide than this, in fonts' sizes, on the average of a label.
@@ -164,57 +165,133 @@ def crest_label(records):
     return f"crest {feet} ft at {hours} h {minutes} min" + (f" {rest} s" if rest else "")
 
 
-def judge(data, listing, gauge=(), called=None):
-    """An svg against the listing, the gauge's readings and what the gauge is called."""
-    svg = Svg(data)
-    records = records_of(listing)
-    last = listing.decode().splitlines()[-1]
-    words = [text[0] for text in svg.texts]
-    title = TITLE + (f" ({last})" if not last[0].isdigit() else "")
-    legend = ["low to high", "high end"] + ([called] if called is not None else [])
-    for word in [title, "feet", "hours since the first record", *legend]:
-        need(words.count(word) == 1, f"not there once: {word!r} in {words}")
-
+def judge_frame(svg, words):
+    """The two panels, and words that are there once each."""
+    said = [text[0] for text in svg.texts]
+    for word in ["feet", "hours since the first record", *words]:
+        need(said.count(word) == 1, f"not there once: {word!r} in {said}")
     need(abs(svg.upper[0] - svg.lower[0]) < NEAR and abs(svg.upper[2] - svg.lower[2]) < NEAR,
          "the panels are not aligned")
     need(svg.upper[3] < svg.lower[1] and 0.15 < (svg.lower[3] - svg.lower[1]) / SIZE[1] < 0.3,
          f"the panels: {svg.upper} {svg.lower}")
+
+
+def judge_side(svg, said):
+    """What the strip says at its side."""
+    sides = [text for text in svg.texts if text[0] == said]
+    need(len(sides) == 1 and sides[0][4] and svg.lower[1] < sides[0][2] < svg.lower[3],
+         f"what the strip shows: {sides}")
+
+
+def reach_of(text):
+    """From where to where a text reaches, at the most; no letter is wider."""
+    said, x, _, anchor, _ = text
+    reach = LETTER * FONT * len(said)
+    left = x - {"start": 0, "middle": reach / 2, "end": reach}[anchor]
+    return left, left + reach
+
+
+def judge_curves(svg, hydrographs):
+    """Band and high end of each listing, by its colours; what is drawn of them all as
+    areas."""
+    hours, feet = svg.along(), svg.up(svg.upper)
+    bands = []
+    for records, band, line in hydrographs:
+        high_ends = [(hours(s / 3600), feet(h / 10000)) for s, _, h in records]
+        low_ends = [(hours(s / 3600), feet(l / 10000)) for s, l, _ in records]
+        if len(records) > 1:
+            same_places(svg.lines("a", line), high_ends, "the high end")
+            bands += high_ends + low_ends
+        elif high_ends != low_ends:
+            same_places(svg.lines("a", band), high_ends + low_ends, "the band")
+    if bands:
+        same_places(svg.areas("a"), bands, "the band")
+
+
+def judge(data, listing, gauge=(), called=None):
+    """An svg against the listing, the gauge's readings and what the gauge is called."""
+    svg = Svg(data)
+    records = records_of(listing)
+    title = TITLE + ended(listing)
+    legend = ["low to high", "high end"] + ([called] if called is not None else [])
+    judge_frame(svg, [title, *legend])
     hours, feet, width = svg.along(), svg.up(svg.upper), svg.up(svg.lower)
 
     label = [text for text in svg.texts if text[0].startswith("crest")]
     need([text[0] for text in label] == [crest_label(records)],
          f"{label} instead of {crest_label(records)!r}")
-    text, x, y, anchor, turned = label[0]
-    reach = LETTER * FONT * len(text)
-    left = x - {"start": 0, "middle": reach / 2, "end": reach}[anchor]
-    need(not turned and svg.upper[0] <= left and left + reach <= svg.upper[2],
-         f"the label reaches from {left} to {left + reach}")
+    left, right = reach_of(label[0])
+    need(not label[0][4] and svg.upper[0] <= left and right <= svg.upper[2],
+         f"the label reaches from {left} to {right}")
     seconds, _, high = crest_of(records)
     crest = hours(seconds / 3600), feet(high / 10000)
     same_places(svg.marks("gpPt5"), [crest], "the crest's mark")
     dots = [(hours(x), feet(y)) for x, y in gauge]
     same_places(svg.marks("gpPt6"), dots, "the gauge's dots")
-    need(svg.upper[1] < y - FONT and all(y < place[1] for place in [crest, *dots]),
+    above = label[0][2]
+    need(svg.upper[1] < above - FONT and all(above < place[1] for place in [crest, *dots]),
          "the label is not above what is drawn")
 
-    high_ends = [(hours(s / 3600), feet(h / 10000)) for s, _, h in records]
-    low_ends = [(hours(s / 3600), feet(l / 10000)) for s, l, _ in records]
+    judge_curves(svg, [(records, "rgb(127,168,208)", "rgb(31,78,121)")])
     tops = [(hours(s / 3600), width((h - l) / 10)) for s, l, h in records]
     floor = [(hours(s / 3600), width(0)) for s, _, _ in records]
     if len(records) > 1:
-        same_places(svg.lines("a", "rgb(31,78,121)"), high_ends, "the high end")
-        same_places(svg.areas("a"), high_ends + low_ends, "the band")
         same_places(svg.areas("b"), tops + floor, "the strip")
-    elif high_ends != low_ends:
-        same_places(svg.lines("a", "rgb(127,168,208)"), high_ends + low_ends, "the band")
     lines = svg.lines("b", "rgb(31,78,121)")
     same_places(lines, tops + floor[:1], "the strip's line")
     need(abs(floor[0][1] - svg.lower[3]) < NEAR, "the strip does not begin at 0")
     need(any(max(h - l for _, l, h in records) == 0 or y < svg.lower[1] + 0.4 * (
         svg.lower[3] - svg.lower[1]) for _, y in lines), "the strip is hardly used")
-    sides = [text for text in svg.texts if text[0] == "width, 0.001 ft"]
-    need(len(sides) == 1 and sides[0][4] and svg.lower[1] < sides[0][2] < svg.lower[3],
-         f"what the strip shows: {sides}")
+    judge_side(svg, "width, 0.001 ft")
+
+
+def ended(listing):
+    """What is said of a listing whose last line is no record."""
+    last = listing.decode().splitlines()[-1]
+    return "" if last[0].isdigit() else f" ({last})"
+
+
+def differences_of(first, second):
+    """By the times that both have: feet from the first's middle to the second's."""
+    middles = {s: l + h for s, l, h in first}
+    return [(s, (l + h - middles[s]) / 20000) for s, l, h in second if s in middles]
+
+
+def judge_two(data, listings, names):
+    """An svg against two listings and what they are called."""
+    svg = Svg(data)
+    first, second = map(records_of, listings)
+    legend = [f"{name}: high end, {crest_label(records_of(listing))}{ended(listing)}"
+              for name, listing in zip(names, listings)]
+    less = f"{names[1]} less {names[0]}"
+    judge_frame(svg, [TITLE, *legend, less])
+    said = [text[0] for text in svg.texts]
+    need(said.count("low to high") == 2, f"the bands are told in {said}")
+    title, = (text for text in svg.texts if text[0] == TITLE)
+    for word in [*legend, less, "low to high"]:
+        for text in (text for text in svg.texts if text[0] == word):
+            left, right = reach_of(text)
+            need(0 <= left and right <= SIZE[0], f"{word!r} reaches from {left} to {right}")
+            inside = svg.upper[1] < text[2] < svg.upper[3]
+            need(title[2] + FONT / 2 < text[2] < svg.lower[1] and not inside,
+                 f"{word!r} stands at {text[2]}")
+
+    hours, feet, difference = svg.along(), svg.up(svg.upper), svg.up(svg.lower)
+    crests = [crest_of(records) for records in (first, second)]
+    crests = [(hours(seconds / 3600), feet(high / 10000)) for seconds, _, high in crests]
+    same_places(svg.marks("gpPt5"), crests, "the crests' marks")
+    judge_curves(svg, [(first, "rgb(127,168,208)", "rgb(31,78,121)"),
+                       (second, "rgb(224,144,47)", "rgb(179,89,0)")])
+
+    both = differences_of(first, second)
+    curve = [(hours(s / 3600), difference(d)) for s, d in both]
+    nought = [(x, difference(0)) for x, _ in curve]
+    same_places(svg.lines("b", "rgb(64,64,64)"), curve + nought[:1], "the strip's line")
+    need(all(svg.lower[1] < y < svg.lower[3] for _, y in curve + nought), "the strip is left")
+    heights = [y for _, y in curve + nought]
+    used = (max(heights) - min(heights)) / (svg.lower[3] - svg.lower[1])
+    need(used > 0.6 or all(abs(d) < 0.001 for _, d in both), "the strip is hardly used")
+    judge_side(svg, "difference, ft")
 
 
 def listing_of(records, end=""):
@@ -376,6 +453,68 @@ def draws_anywhere(bench, env):
     bench.run(folder, "listing", "x.svg", "gauge.csv", temporary="spare",
               HOME=str(folder / "home"), **env)
     need((folder / "x.svg").read_bytes() == (folder / "plain.svg").read_bytes(), "another picture")
+
+
+# Two listings
+
+def draws_two(bench, first, second):
+    folder = bench.folder(**{"one.txt": first, "two.txt": second})
+    bench.run(folder, "one.txt", "x.svg", "two.txt")
+    judge_two((folder / "x.svg").read_bytes(), (first, second), ("one", "two"))
+
+
+def draws_two_png(bench):
+    folder = bench.folder(other=hump(5, 3))
+    bench.run(folder, "listing", "x.png", "other")
+    data = (folder / "x.png").read_bytes()
+    need(data[:8] == b"\x89PNG\r\n\x1a\n" and data[-8:-4] == b"IEND", f"no png: {data[:8]}")
+
+
+def names_two(bench, first, second, called):
+    """What two files are called, where one may be standard input."""
+    listings = {"first": hump(5, 3), "second": hump(5, 2)}
+    folder = bench.folder()
+    for name, listing in zip((first, second), listings.values()):
+        if name != b"-":
+            path = folder / os.fsdecode(name)
+            path.parent.mkdir(exist_ok=True)
+            path.write_bytes(listing)
+    given = listings["first"] if first == b"-" else listings["second"]
+    bench.run(folder, first, "x.svg", second, stdin=given)
+    judge_two((folder / "x.svg").read_bytes(), tuple(listings.values()), called)
+
+
+def takes_for_gauge(bench, line):
+    """What does not begin with a listing's names line, and nothing beside it, is none."""
+    folder = bench.folder(**{"gauge.csv": line + GAUGE})
+    bench.run(folder, "listing", "x.svg", "gauge.csv")
+    judge((folder / "x.svg").read_bytes(), (folder / "listing").read_bytes(),
+          [(0, 1.5), (0.5, 2.25), (1, 1.75)], "gauge")
+
+
+def two_lists():
+    """Pairs of listings, by what is particular about them. All others begin at 0, and are
+    laid over one of them and under it."""
+    arch = [(900 * k, h := 100000 - 700 * (k - 8) ** 2, h + 41 + k) for k in range(17)]
+    for name, listing in listings():
+        yield f"{name}, over an arch", listing_of(arch), listing
+        yield f"{name}, under an arch", listing, listing_of(arch)
+    yield "one listing twice", listing_of(arch), listing_of(arch)
+    yield "next to nothing apart", listing_of(arch), listing_of(
+        [(s, l + 1, h) for s, l, h in arch])
+    yield "above", listing_of(arch), listing_of([(s, l + 300, h + 400) for s, l, h in arch])
+    yield "below", listing_of(arch), listing_of([(s, l - 300, h - 300) for s, l, h in arch])
+    yield "the second shorter", listing_of(arch), listing_of(arch[:9])
+    yield "the first shorter", listing_of(arch[:9]), listing_of(arch)
+    yield "every other time", listing_of(arch), listing_of(arch[::2])
+    yield "one time of both", listing_of(arch), listing_of(
+        [(s + 450 * (s != 1800), l + 9, h + 9) for s, l, h in arch])
+    yield "the last time of one, the first of the other", listing_of(arch[:9]), listing_of(
+        [(s, h - 5, h) for s, _, h in arch[8:]])
+    yield "one record each", listing_of([(0, 5, 90)]), listing_of([(0, 70, 70)])
+    yield "both refused", listing_of(arch[:9], "refused 12 63"), listing_of(
+        arch[:7], "refused 9 0")
+    yield "one failed", listing_of(arch[:3], "failed"), listing_of(arch)
 
 
 # Names
@@ -556,6 +695,36 @@ def page_draws_picture(bench, page, example, command, listing):
         judge(data, listing(), published(example), "published")
 
 
+def two_commands(page):
+    """The three commands of a page that draw two hydrographs: a run for each, and the plot."""
+    three = r"^ *(\S.*) > (\S+)\n *(\S.*) > (\S+)\n *(tools/plot (\S+) (\S+) (\S+))$"
+    found = re.findall(three, page.read_text(), re.M)
+    need(len(found) == 1, f"{page.relative_to(ROOT)} has {len(found)} times two lines `.. > FILE` "
+         "and below them one that begins `tools/plot`")
+    return found[0]
+
+
+def page_draws_two(bench, page, examples, runs):
+    """A page shows the picture named after its folder, and has the commands that draw it.
+    What the runs print, run_examples compares with the examples' expected.txt."""
+    run, one, other_run, two, plot, first, picture, second = two_commands(page)
+    name, here = f"docs/{page.parent.name}.svg", page.relative_to(ROOT)
+    need((run, other_run) == runs, f"{here} runs {run!r} and {other_run!r}")
+    need((one, two) == (first, second) and picture == name, f"{here} draws {plot!r}")
+    shown = os.path.relpath(ROOT / name, page.parent)
+    need(f"]({shown})" in page.read_text(), f"{here} does not show {shown}")
+    listings = tuple((example / "expected.txt").read_bytes() for example in examples)
+    files = [os.path.basename(file) for file in (first, second)]
+    folder = bench.folder(**dict(zip(files, listings)))
+    bench.run(folder, files[0], "x.svg", files[1])
+    drawn, kept = (folder / "x.svg").read_bytes(), (ROOT / name).read_bytes()
+    # another gnuplot may set the same picture otherwise
+    if version_of(drawn) == version_of(kept):
+        need(drawn == kept, f"{name} is another picture")
+    for data in drawn, kept:
+        judge_two(data, listings, [file.removesuffix(".txt") for file in files])
+
+
 def published(example):
     lines = (example / "published.csv").read_text().splitlines()[1:]
     return [tuple(map(float, line.split(","))) for line in lines]
@@ -586,6 +755,23 @@ CALLED = [
     (b"W" * 60 + b".csv", "W" * 60), (b"i" * 251 + b".csv", "i" * 57 + "..."),
     (("ü" * 120).encode() + b".csv", "ü" * 57 + "..."),
 ]
+# What two listings' files are named, and what the legend calls them.
+CALLED_TWO = [
+    (b"a.txt", b"b.txt", ("a", "b")), (b"a", b"b.csv", ("a", "b.csv")),
+    (b".txt", b"x.txt.txt", (".txt", "x.txt")),
+    (b"-", b"b", ("standard input", "b")), (b"a.txt", b"-", ("a", "-")),
+    (b"base/listing.txt", b"new/listing.txt", ("listing (first)", "listing (second)")),
+    (b"i" * 29, b"x" * 28 + b".txt", ("i" * 25 + "...", "x" * 28)),
+    (b"i" * 28, b"x" * 29 + b".txt", ("i" * 28, "x" * 25 + "...")),
+    (("ü" * 120).encode(), b"x\xff\xfe.txt", ("ü" * 25 + "...", "x??")),
+    (b"it's\n", b"system('touch hit').txt", ("it's?", "system('touch hit')")),
+    (b"$(touch hit)", b"`touch hit`%d\\n", ("$(touch hit)", "`touch hit`%d\\n")),
+]
+# Beginnings of a file that make it no listing.
+NO_LISTING = [
+    b"seconds low high \n", b" seconds low high\n", b"\nseconds low high\n",
+    b"seconds low high\r\n", b"seconds,low,high\n",
+]
 WRONG_USAGE = [
     (), ("listing",), ("listing", "x.svg", "gauge.csv", "more"), ("listing", "x.gif"),
     ("listing", "svg"), ("listing", ""), ("listing", "x.svg.gz", "gauge.csv"), ("--help", "me"),
@@ -607,6 +793,24 @@ def test_pictures(bench):
         bench.test(f"gauge, {name}", draws_gauge, data, readings)
     for env in SURROUNDINGS:
         bench.test(f"surroundings {env}", draws_anywhere, env)
+
+
+def test_two(bench):
+    for name, first, second in two_lists():
+        bench.test(f"two, {name}", draws_two, first, second)
+    bench.test("two, png", draws_two_png)
+    for first, second, called in CALLED_TWO:
+        bench.test(f"two, named {first[:20]} and {second[:20]}", names_two, first, second, called)
+    for line in NO_LISTING:
+        bench.test(f"no listing, {line}", takes_for_gauge, line)
+    args = "listing", "x.svg", "other"
+    for end in b"", b"refused 9 0\n", b"failed\n":
+        bench.test(f"no record in the second, {end}", refuses_input, args,
+                   b"no record in other", {"other": b"seconds low high\n" + end})
+    bench.test("a second refused at once", refuses_input, args, b"no reading in other",
+               {"other": b"refused 1 1\n"})
+    bench.test("no time of both", refuses_input, args, b"no time that listing and other both have",
+               {"other": listing_of([(1, 2, 3), (1801, 2, 3)])})
 
 
 def test_names(bench):
@@ -659,6 +863,9 @@ def test_readmes(bench):
     bench.test("the example's README has the same commands", pages_agree)
     bench.test("the hurricane's commands draw its picture", page_draws_picture,
                HURRICANE / "README.md", HURRICANE, "target/hurricane", hurricane_listing)
+    bench.test("the profile's commands draw its picture", page_draws_two, PROFILE / "README.md",
+               (HURRICANE, PROFILE),
+               ("target/hurricane", "target/hurricane examples/profile/holland.txt"))
 
 
 def main():
@@ -667,7 +874,7 @@ def main():
     subprocess.run([plot.parent / "setup", "plot"], stdout=sys.stderr, check=True)
     with tempfile.TemporaryDirectory() as root:
         bench = Bench(plot, root)
-        for some in test_pictures, test_names, test_inputs, test_outputs, test_readmes:
+        for some in test_pictures, test_two, test_names, test_inputs, test_outputs, test_readmes:
             some(bench)
     print(f"{bench.passed} passed, {bench.failed} failed")
     return 0 if bench.failed == 0 else 1

@@ -1,12 +1,13 @@
-# A driver in Python for the protocol of calls.py, make_calls.py and deck_calls.py:
-# it answers from the model, its fast path for the march. It shows how the protocol
-# is read and lets all three be tried without the product.
+# A driver in Python for the protocol of calls.py, make_calls.py, deck_calls.py and
+# profile_calls.py: it answers from the model, its fast path for the march. It shows
+# how the protocol is read and lets all four be tried without the product.
 
 import sys
 
 import deck_calls
 import make_calls
-from gen import decks, hurricanes
+import profile_calls
+from gen import decks, hurricanes, profiles
 from model import fast, forcing, march
 from model.sine import cosine, sine
 
@@ -42,10 +43,15 @@ class Numbers:
             return range(count)
         return [march.Row(*row) for row in self.groups(count, 3)]
 
-    def array(self):
-        """Above 4,000 only the count is given."""
+    def array(self, written=4000):
+        """Above that only the count is given."""
         count = self.one()
-        return self.some(count) if count <= 4000 else range(count)
+        return self.some(count) if count <= written else range(count)
+
+    def bytes(self):
+        """Two hex digits a byte, `-` for no byte."""
+        word = self.word()
+        return b"" if word == "-" else bytes.fromhex(word)
 
     def traverse(self):
         head = self.some(3)
@@ -86,16 +92,27 @@ def record(numbers, most=march.MOST_POINTS):
     return head + left
 
 
+def made_of(numbers):
+    return hurricanes.Call(*numbers.some(7), *(numbers.array() for _ in range(4)))
+
+
 def make(numbers):
-    call = hurricanes.Call(*numbers.some(7), *(numbers.array() for _ in range(4)))
-    return [make_calls.expected(call)]
+    return [make_calls.expected(made_of(numbers))]
+
+
+def make_with(numbers):
+    factors = numbers.array(profile_calls.FACTORS_WRITTEN)
+    return [profile_calls.asked(profiles.Making(factors, made_of(numbers)))[1]]
 
 
 def read_deck(numbers):
-    given, answer = numbers.some(4), numbers.array()
-    text = numbers.word()
-    call = decks.Call(*given, answer, b"" if text == "-" else bytes.fromhex(text))
+    call = decks.Call(*numbers.some(4), numbers.array(), numbers.bytes())
     return [deck_calls.asked(call)[1]]
+
+
+def load_profile(numbers):
+    call = profiles.Loading(numbers.one(), numbers.array(), numbers.bytes())
+    return [profile_calls.asked(call)[1]]
 
 
 CALLS = {
@@ -114,6 +131,8 @@ CALLS = {
     "panel_open": lambda n: open_traverse(n, march.PANEL_MOST_POINTS),
     "panel_record": lambda n: record(n, march.PANEL_MOST_POINTS),
     "make": make,
+    "make_with": make_with,
+    "profile": load_profile,
     "deck": read_deck,
 }
 

@@ -1,8 +1,9 @@
 # Tests of the model and of the generators: document 01's reference runs, the
 # readings of its text, the exact march within every range, ranges against a
 # dense sample of fractions, and the fast path against the fractions; document
-# 02's storm maker, its decks, its calms, its harbour panel and its flux limit by
-# numbers worked out by hand, and its coefficient by those that TM-35 prints.
+# 02's storm maker, its decks, its calms, its harbour panel, its flux limit and its
+# customer's table by numbers worked out by hand, and its coefficient by those that
+# TM-35 prints.
 #
 #   python3 selftest.py        the last line is `N passed, M failed`
 
@@ -24,8 +25,9 @@ from unittest import mock
 import calls
 import deck_calls
 import make_calls
-from gen import calms, cases, damage, decks, edges, held, hurricanes, panels, values
-from model import deck, exact, fast, forcing, hurricane, march, program, ranges, reader, refread
+import profile_calls
+from gen import calms, cases, damage, decks, edges, held, hurricanes, panels, profiles, values
+from model import deck, exact, fast, forcing, hurricane, march, profile, program, ranges, reader, refread
 from model.sine import TABLE, cosine, sine
 
 
@@ -1517,10 +1519,12 @@ def test_driver_answers():
     driver = "%s %s" % (sys.executable, os.path.join(here, "refdriver.py"))
     only = "--only=limit,room,answer,random"
     decks_only = "--only=answer,fault,random"
+    profiles_only = "--only=answer,fault,random"
     for tool, changed in (
         (["calls.py"], ["--only=open", "--only=panel_open"]),
         (["make_calls.py", only], [only]),
         (["deck_calls.py", decks_only], [decks_only]),
+        (["profile_calls.py", profiles_only], ["--only=answer", "--only=random"]),
     ):
         command = [sys.executable, os.path.join(here, tool[0]), driver, "300", "2", *tool[1:]]
         same(subprocess.run(command, stdout=subprocess.DEVNULL).returncode, 0)
@@ -1561,9 +1565,10 @@ def test_deficits():
     ratios.update({(300, 300): 100, (300, 301): 99, (1, 0): 1000, (2000, 1): 1000})
     for (radius, r), m in ratios.items():
         same((radius, r, hurricane.hundredths(radius, r)), (radius, r, m))
+    own = hurricane.own_table()
     for r, want in ((0, 300), (30, 300), (300, 189), (301, 188), (150, 259), (30_001, 0)):
-        same((r, hurricane.deficit(storm_at(), r)), (r, want))
-    same([hurricane.deficit(storm_at(drop=d), 300) for d in (0, 1, 2, 3)], [0, 0, 1, 1])
+        same((r, hurricane.deficit(storm_at(), r, own)), (r, want))
+    same([hurricane.deficit(storm_at(drop=d), 300, own) for d in (0, 1, 2, 3)], [0, 0, 1, 1])
 
 
 def test_list_winds():
@@ -1712,8 +1717,8 @@ def nearest_ratio(radius, r):
     return 1000 if r == 0 else min(1000, (200 * radius + r) // (2 * r))
 
 
-def deficit_up(storm, r):
-    value = hurricane.entry(hurricane.hundredths(storm.radius, r))
+def deficit_up(storm, r, table):
+    value = table[hurricane.hundredths(storm.radius, r)]
     return -((storm.centre - storm.edge) * (10_000 - value) // 10_000)
 
 
@@ -2282,6 +2287,554 @@ def test_deck_mistakes_are_noticed():
         with mock.patch.object(deck, name, mistake):
             wrong = [deck_calls.outcome(call) for call in asked[kind]]
             hand = sum(a != b for a, b in zip(hand_outcomes(), by_hand))
+        noticed = sum(a != b for a, b in zip(wrong, right[kind]))
+        shown = (label, noticed, len(wrong), hand, len(by_hand))
+        print("  %-32s noticed in %4d of %4d calls, in %d of %d by hand" % shown)
+        assert noticed > 1 and hand > 0, label
+
+
+# The customer's table of document 02, by hand from its readings.
+
+LINEAR = tuple(range(10_000, -1, -10))
+FACTOR = b"factor\n"
+LINEAR_TEXT = FACTOR + b"".join(b"%d\n" % entry for entry in LINEAR)
+
+
+def numbered(*lines):
+    """The text of a table with some lines another one, by their numbers; one behind the
+    last is one more."""
+    text = LINEAR_TEXT.split(b"\n")
+    for number, line in lines:
+        text[number - 1 : number] = [line] if number < len(text) else [line, b""]
+    return b"\n".join(text)
+
+
+def of_entries(*entries):
+    return FACTOR + b"".join(b"%d\n" % entry for entry in entries)
+
+
+# The last lines of 1,500: more entries than there are in a table, the last malformed.
+LONG_TABLE = LINEAR_TEXT + b"0\n" * 497
+
+# Text: the refusal's number and place, or None where it is loaded. Line 2 has entry 0.
+PROFILE_TEXTS = (
+    (LINEAR_TEXT, None),
+    (b"", (1, 1)),
+    (b"\n", (1, 1)),
+    (b"factor", (1, 1)),
+    (b"factors\n", (1, 1)),
+    (b"Factor\n" + LINEAR_TEXT[7:], (1, 1)),
+    (b" " + LINEAR_TEXT, (1, 1)),
+    (b"factor \n" + LINEAR_TEXT[7:], (1, 1)),
+    (LINEAR_TEXT.replace(b"\n", b"\r\n"), (1, 1)),
+    (b"\xef\xbb\xbf" + LINEAR_TEXT, (1, 1)),
+    (b"factors\n" + LINEAR_TEXT[7:], (1, 1)),
+    (b"factors\n9999\nx\n", (1, 1)),
+    (LINEAR_TEXT[7:], (1, 1)),
+    # a names line alone; entry 5 missing; one too many; a bad entry 7 in a table of 8
+    (FACTOR, (20, 0)),
+    (of_entries(*LINEAR[:1]), (20, 1)),
+    (of_entries(*LINEAR[:5]), (20, 5)),
+    (of_entries(*LINEAR[:1000]), (20, 1000)),
+    (of_entries(*LINEAR, 0), (20, 1001)),
+    (of_entries(*LINEAR, 0, 0), (20, 1001)),
+    (of_entries(10_000, 9, 8, 7, 6, 5, 4, 5), (20, 7)),
+    (of_entries(10_000, 9, 8, 7, 6, 5, 4, -1), (20, 7)),
+    # of 1,006 entries only entry 1,005 rises, is below 0
+    (of_entries(*LINEAR, 0, 0, 0, 0, 1), (20, 1001)),
+    (of_entries(*LINEAR, 0, 0, 0, 0, -1), (20, 1001)),
+    (of_entries(*LINEAR, 1), (20, 1001)),
+    (of_entries(*LINEAR[:1000], 11, 0), (20, 1000)),
+    # entry 0
+    (numbered((2, b"9999")), (20, 0)),
+    (numbered((2, b"10001")), (20, 0)),
+    (numbered((2, b"0")), (20, 0)),
+    (of_entries(*LINEAR[1:]), (20, 0)),
+    # a rise by 1, an equal entry, 0 and below 0
+    (numbered((3, b"10001")), (20, 1)),
+    (numbered((3, b"10000")), None),
+    (numbered((3, b"9979")), (20, 2)),
+    (numbered((502, b"5011")), (20, 500)),
+    (numbered((502, b"5010")), None),
+    (numbered((1002, b"11")), (20, 1000)),
+    (numbered((1002, b"10")), None),
+    (numbered((1002, b"-1")), (20, 1000)),
+    (numbered((1001, b"0")), None),
+    (numbered((1001, b"-1")), (20, 999)),
+    (numbered((1001, b"-1"), (7, b"9961")), (20, 5)),
+    (of_entries(10_000, *[0] * 1000), None),
+    (of_entries(*[10_000] * 1001), None),
+    (of_entries(10_000, *[0] * 999, 1), (20, 1000)),
+    # malformed lines, before any entry: a line 1,500 before a bad entry 0
+    (LINEAR_TEXT[:-1], (2, 1002)),
+    (LINEAR_TEXT + b"\n", (2, 1003)),
+    (LINEAR_TEXT + b"0", (2, 1003)),
+    (FACTOR + b"\n", (2, 2)),
+    (FACTOR + b"10000", (2, 2)),
+    (FACTOR + FACTOR, (2, 2)),
+    (of_entries(9999) + b"00\n", (2, 3)),
+    (LONG_TABLE, (20, 1001)),
+    (LONG_TABLE + b"-0\n", (2, 1500)),
+    ((LONG_TABLE + b"-0\n").replace(b"10000", b"9999"), (2, 1500)),
+    (numbered((2, b"9999"), (1002, b"0 0")), (2, 1002)),
+    (numbered((5, b"9970 "), (900, b"1.0")), (2, 5)),
+    (numbered((502, b"999999999")), (20, 500)),
+    (numbered((502, b"-999999999")), (20, 500)),
+    (numbered((502, b"1000000000")), (2, 502)),
+    (numbered((502, b"-1000000000")), (2, 502)),
+    (numbered((2, b"10000\r")), (2, 2)),
+    (numbered((2, b"+10000")), (2, 2)),
+    (numbered((2, b"010000")), (2, 2)),
+    (numbered((2, b"\t10000")), (2, 2)),
+    (numbered((2, b"10000\x00")), (2, 2)),
+    (numbered((2, b"1\xd9\xa3")), (2, 2)),
+    (numbered((1002, b"-")), (2, 1002)),
+)  # fmt: skip
+
+# Of a text and room for so many numbers.
+PROFILE_LOADS = (
+    (LINEAR_TEXT, 1001, None),
+    (LINEAR_TEXT, 1002, None),
+    (LINEAR_TEXT, 5000, None),
+    (LINEAR_TEXT, 1000, (8, 0)),
+    (LINEAR_TEXT, 0, (8, 0)),
+    (numbered((2, b"9999")), 0, (20, 0)),
+    (of_entries(*LINEAR[:1000]), 1000, (20, 1000)),
+    (LINEAR_TEXT[:-1], 0, (2, 1002)),
+    (b"", 0, (1, 1)),
+)
+
+
+def load_outcome(text, room=1001):
+    """Number and place of a refusal, or None where the table is loaded, and the room as
+    it is left."""
+    lent = [-7 - i for i in range(room)]
+    told = profile.load(text, lent)
+    return tuple(told) if isinstance(told, march.Refusal) else None, lent
+
+
+def test_profile_texts():
+    for text, want in PROFILE_TEXTS:
+        same((text, load_outcome(text)[0]), (text, want))
+    for text, room, want in PROFILE_LOADS:
+        told, left = load_outcome(text, room)
+        same((text, room, told), (text, room, want))
+        if want:
+            same(left, [-7 - i for i in range(room)])
+        else:
+            same((left[:1001], left[1001:]), (list(LINEAR), [-7 - i for i in range(1001, room)]))
+
+
+def table_place(*entries):
+    """The entry that 20 tells of a table that is lent."""
+    refusal = profile.check_table(entries)
+    return refusal and (refusal.number, refusal.place)
+
+
+def test_lent_tables():
+    same(table_place(*LINEAR), None)
+    same(table_place(*hurricane.own_table()), None)
+    same([table_place(*LINEAR[:n]) for n in (0, 1, 5, 1000)], [(20, n) for n in (0, 1, 5, 1000)])
+    same([table_place(*LINEAR, *more) for more in ((0,), (1,), (-5,) * 9)], [(20, 1001)] * 3)
+    same(table_place(10_000, 9, 8, 7, 6, 5, 4, 5), (20, 7))
+    same(table_place(*LINEAR[:1000], 11, 11), (20, 1000))
+    ends = -(2**63), 2**63 - 1
+    same([table_place(end, *LINEAR[1:]) for end in (*ends, 9_999, 10_001)], [(20, 0)] * 4)
+    for place in (1, 500, 1000):
+        wrong = [LINEAR[:place] + (end,) + LINEAR[place + 1 :] for end in ends]
+        same([table_place(*table) for table in wrong], [(20, place)] * 2)
+    same(profile.check_table(range(2**33)), (20, 0))
+
+
+def test_profile_call():
+    """Room, answer and protocol of both calls."""
+    call = profiles.Loading(1003, (7, 8, 9), LINEAR_TEXT)
+    lent = [-8_000_001 - i for i in range(1003)]
+    same(profile_calls.outcome(call), (0, (0, 0, 0), [*LINEAR, *lent[1001:]]))
+    same(profile_calls.outcome(call._replace(room=1000)), (8, (0, 0, 0), lent[:1000]))
+    same(profile_calls.outcome(call._replace(text=FACTOR)), (20, (0, 0, 0), lent))
+    same(profile_calls.outcome(call._replace(text=LINEAR_TEXT[:-1])), (2, (1002, 0, 0), lent))
+    same(profile_calls.outcome(call._replace(answer=(7, 8))), (255, (7, 8), lent))
+    same(profile_calls.outcome(call._replace(room=2**32))[2][1000:1003], [0, 0, 0])
+    same(profile_calls.asked(call._replace(text=b"\n")), ("profile 1003 3 7 8 9 0a", "1 3 1 0 0 0"))
+    same(profile_calls.asked(call._replace(text=b"", room=1))[0], "profile 1 3 7 8 9 -")
+    want = "0 3 0 0 0 1001 " + " ".join(map(str, LINEAR))
+    same(profile_calls.asked(call)[1], want)
+    # of blank pages the last entry, 0, is as it was
+    same(profile_calls.asked(call._replace(room=2**32))[1], want.replace(" 1001 ", " 1000 ")[:-2])
+    making = profiles.Making(LINEAR[:2], hurricanes.SOUND)
+    request, answer = profile_calls.asked(making)
+    same(request, make_calls.request(hurricanes.SOUND).replace("make ", "make_with 2 10000 9990 "))
+    same(answer.split()[:4], ["20", "3", "2", "0"])
+    same(profile_calls.asked(profiles.Making(range(2**32), hurricanes.SOUND))[0].split()[:3],
+         ["make_with", str(2**32), "2800"])  # fmt: skip
+
+
+def test_made_with_table():
+    """By hand, R 300 and a drop of 300: at m hundredths of R/r the deficit is 3m/10."""
+    sites = [(r, 0, 900) for r in (0, 30, 31, 300, 301, 600, 2000, 10_000)]
+    call = hurricanes.call_of(storm_at(), ((400, 1000),), sites)
+    number, answer, room = profile_calls.outcome(profiles.Making(LINEAR, call))
+    same((number, answer), (0, (0, 1800, -35)))
+    # m: 1,000 twice, 967, 100, 99, 50, 15, 3
+    same(room[2::3], [300, 300, 290, 30, 29, 15, 4, 0])
+    for table, want in (((10_000,) * 1001, 0), ((10_000,) + (0,) * 1000, 300)):
+        same(set(profile_calls.outcome(profiles.Making(table, call))[2][2::3]), {want})
+    tables = LINEAR[:1000], LINEAR + (0,), (9_999,) + LINEAR[1:]
+    told = [profile_calls.outcome(profiles.Making(t, call._replace(radius=0)))[:2] for t in tables]
+    same(told, [(20, (place, 0, 0)) for place in (1000, 1001, 0)])
+    same(profile_calls.outcome(profiles.Making(LINEAR, call._replace(radius=0)))[:2], (13, (0, 0, 0)))
+    same(profile_calls.outcome(profiles.Making((), call._replace(answer=(1,))))[:2], (255, (1,)))
+
+
+def test_made_with_own_table():
+    """Our own table lent is the storm maker without one."""
+    rng = random.Random(40)
+    own = hurricane.own_table()
+    for call in (*hurricanes.random_calls(rng, 400), *hurricanes.limit_calls(rng)):
+        same(profile_calls.outcome(profiles.Making(own, call)), make_calls.outcome(call))
+    traverse = march.Traverse(300, 25, 0, ((10, 500), (0, 500)))
+    track = track_of((0, 1800, 600))
+    ours = hurricane.listing(traverse, track)
+    same(hurricane.listing(traverse, track, table=own), ours)
+    same(hurricane.listing(traverse, track, table=LINEAR) != ours, True)
+    same(hurricane.listing(traverse, track, table=own[:1000]), NAMES + b"refused 20 1000\n")
+
+
+def test_profile_faults():
+    """One fault is answered, and the first of two; of making, 20."""
+    for fault in profiles.faults():
+        same(profile_calls.outcome(fault.change(profiles.SOUND))[:2], (fault.number, (fault.told, 0, 0)))
+    met = set()
+    for call, first in (*profiles.unlike(profiles.fault_pairs()), *profiles.surplus_pairs()):
+        number, answer, room = profile_calls.outcome(call)
+        same((call, number, answer), (call, first.number, (first.told, 0, 0)))
+        same(room, profile_calls.lent_room(call.room))
+        met.add((number, answer[0]))
+    lines = {(2, line) for line in (2, 3, 502, 1002, 1003, 1004, 1500, 1601)}
+    same(met, {(1, 1), (8, 0)} | lines | {(20, place) for place in (*profiles.PLACES, 1001)})
+    seconds = collections.Counter()
+    for making, place in profiles.making_pairs():
+        number, answer, room = profile_calls.outcome(making)
+        same((number, answer, tuple(room)), (20, (place, 0, 0), making.call.room))
+        own = make_calls.outcome(making.call)
+        seconds[own[0], own[1][0] > 0] += 1
+    same(sorted(seconds), [(8, False), (13, False), (13, True), (14, True)])
+
+
+def test_profile_calls_reach_all():
+    """Each of the 1,001 entries is told by loading and by making, lies on both edges
+    that pass, and is met by storms."""
+    told, met, rng = collections.defaultdict(set), set(), random.Random(41)
+    for kind in ("badload", "badmake"):
+        for call in profiles.FIXED[kind](rng):
+            number, answer, _ = profile_calls.outcome(call)
+            same(number, 20)
+            told[kind].add(answer[0])
+    same([told[kind] == set(range(1001)) for kind in ("badload", "badmake")], [True, True])
+    for call in itertools.islice(profiles.makings(rng, LINEAR, 300), 100):
+        storm = hurricane.Hurricane(*call.call[:5])
+        places = make_calls.groups(call.call.sites, 3)
+        met.update(hurricane.hundredths(storm.radius, hurricane.distance(storm, site)) for site in places)
+    same(met, set(range(1001)))
+    for table in profiles.TABLES:
+        same(profile.check_table(table), None)
+    same(len(set(profiles.TABLES)), len(profiles.TABLES))
+    same({profile.check_table(profiles.random_table(rng)) for _ in range(200)}, {None})
+
+
+# Mistakes: what each does in place of a function of the model, most of them by way of
+# the right one.
+
+
+def entry_where(bad):
+    """An entry of which `bad` says that it is bad."""
+    return lambda table, place, right=profile.is_bad: bad(table, place, right(table, place))
+
+
+def entry_0_at_most(table, place, wrong):
+    return table[0] > profile.WHOLE if place == 0 else wrong
+
+
+def above_alone(table, place, wrong):
+    return wrong if place == 0 else table[place] > table[place - 1]
+
+
+def below_alone(table, place, wrong):
+    return wrong if place == 0 else table[place] < 0
+
+
+def must_fall(table, place, wrong):
+    return wrong or place > 0 and table[place] == table[place - 1]
+
+
+def rises_by_two(table, place, wrong):
+    return wrong and not (place and table[place] == table[place - 1] + 1 >= 0)
+
+
+def nought_bad(table, place, wrong):
+    return wrong or table[place] == 0
+
+
+def below_minus_one(table, place, wrong):
+    return wrong and not (place and table[place] == -1 < table[place - 1])
+
+
+def last_free(table, place, wrong):
+    return wrong and place < 1000
+
+
+def below_entry_0(table, place, wrong):
+    """Each entry held against entry 0 instead of the one before it."""
+    return wrong if place == 0 else not 0 <= table[place] <= table[0]
+
+
+def in_32_bits(table, right=profile.check_table):
+    return right(tuple((entry + 2**31) % 2**32 - 2**31 for entry in table[:2000]) if len(table) < 2001 else table)
+
+
+def place_by(change):
+    """Another place where a table is refused."""
+
+    def mistake(table, right=profile.check_table):
+        refusal = right(table)
+        return refusal and refusal._replace(place=change(refusal.place, len(table)))
+
+    return mistake
+
+
+def surplus_after(place, count):
+    return count if place == 1001 else place
+
+
+def surplus_last(place, count):
+    return count - 1 if place == 1001 else place
+
+
+def missing_after(place, count):
+    return place + 1 if place == count < 1001 else place
+
+
+def missing_before(place, count):
+    return max(0, place - 1) if place == count < 1001 else place
+
+
+def counts_first(table, right=profile.check_table):
+    if len(table) != 1001:
+        return march.Refusal(20, min(len(table), 1001))
+    return right(table)
+
+
+def surplus_judged(table, right=profile.check_table):
+    """A bad entry behind the 1,001st told before the surplus."""
+    if len(table) > 10_000:
+        return right(table)
+    return next((march.Refusal(20, p) for p in range(len(table)) if profile.is_bad(table, p)), right(table))
+
+
+def surplus_taken(table, right=profile.check_table):
+    return right(table[:1001])
+
+
+def text_by(change):
+    """The text changed before it is read."""
+    return lambda text, right=profile.read_table: right(change(text))
+
+
+def missing_noughts(text, right=profile.read_table):
+    told = right(text)
+    return told if isinstance(told, march.Refusal) else told + [0] * (1001 - len(told))
+
+
+def one_feed(text):
+    return text[:-1] if text.endswith(b"\n\n") else text
+
+
+def first_lines(text, right=profile.read_table):
+    """Lines behind those of 1,001 entries not judged by 2."""
+    told = right(text)
+    if isinstance(told, march.Refusal) and told.place > 1002:
+        return right(b"".join(text.splitlines(True)[:1003])) if told.place > 1003 else [*LINEAR, 0]
+    return told
+
+
+def lines_of_entries(text, right=profile.read_table):
+    told = right(text)
+    return told._replace(place=told.place - 1) if told == (2, getattr(told, "place", 0)) else told
+
+
+def entries_first(text, right=profile.read_table):
+    """20 before 2: the entries before the malformed line judged first."""
+    told = right(text)
+    if told != (2, getattr(told, "place", 0)):
+        return told
+    before = right(b"".join(text.splitlines(True)[: told.place - 1]))
+    if any(profile.is_bad(before, place) for place in range(min(len(before), 1001))):
+        return before
+    return told
+
+
+def ended(text, right=profile.read_table):
+    """3 where the text ends before its 1,001st entry."""
+    told = right(text)
+    if isinstance(told, march.Refusal) or len(told) >= 1001:
+        return told
+    return march.Refusal(3, 1 + len(told))
+
+
+def no_values(text, right=profile.read_table):
+    return march.Refusal(3, 1) if text == FACTOR else right(text)
+
+
+def no_text(text, right=profile.read_table):
+    return march.Refusal(1, 0) if text == b"" else right(text)
+
+
+def room_first(text, room, right=profile.load):
+    return profile.check_room(room) or right(text, room)
+
+
+def room_after_lines(text, room, right=profile.load):
+    told = right(text, room)
+    return profile.check_room(room) or told if told == (20, getattr(told, "place", 0)) else told
+
+
+def exact_room(room):
+    return march.Refusal(8, 0) if len(room) != 1001 else None
+
+
+def room_of_1000(room):
+    return march.Refusal(8, 0) if len(room) < 1000 else None
+
+
+def written_on_refusal(text, room, right=profile.load):
+    """The good entries written though a later one is bad."""
+    told = right(text, room)
+    if told == (20, getattr(told, "place", 0)) and len(room) >= 1001:
+        table = profile.read_table(text)
+        room[: told.place] = table[: told.place]
+    return told
+
+
+def spare_written(text, room, right=profile.load):
+    told = right(text, room)
+    if not isinstance(told, march.Refusal):
+        room[1001:] = [0] * len(room[1001:])
+    return told
+
+
+def ours_loaded(text, room, right=profile.load):
+    told = right(text, room)
+    if not isinstance(told, march.Refusal):
+        room[:1001] = hurricane.own_table()
+    return told
+
+
+def made_by(judge):
+    """A storm maker that judges its table otherwise."""
+
+    def mistake(storm, seconds, tide, winds, sites, room, table, right=hurricane.make_record):
+        return judge(lambda given: right(storm, seconds, tide, winds, sites, room, given), table, room)
+
+    return mistake
+
+
+def storm_first(make, table, room):
+    told = make(list(hurricane.own_table()))
+    return told if isinstance(told, march.Refusal) else make(table)
+
+
+def own_for_good(make, table, room):
+    return profile.check_table(table) or make(None)
+
+
+def own_for_bad(make, table, room):
+    return make(table if profile.check_table(table) is None else None)
+
+
+def next_entry(storm, r, table, right=hurricane.deficit):
+    return right(storm, r, table[1:] + table[-1:])
+
+
+def entry_for_far(storm, r, table, right=hurricane.deficit):
+    """The part that is left taken for the part that is gone."""
+    drop = storm.edge - storm.centre
+    return drop * table[hurricane.hundredths(storm.radius, r)] // 10_000
+
+
+# The mistake, the module and the name that it stands for, what stands there, and a kind
+# of call that has to notice it, as the cases by hand have to.
+PROFILE_MISTAKES = (
+    ("entry 0 not judged", profile, "is_bad", entry_where(lambda t, p, w: w and p > 0), "badmake"),
+    ("entry 0 at most 10,000", profile, "is_bad", entry_where(entry_0_at_most), "badmake"),
+    ("a rise accepted", profile, "is_bad", entry_where(below_alone), "badload"),
+    ("a rise by 1 accepted", profile, "is_bad", entry_where(rises_by_two), "badmake"),
+    ("below 0 accepted", profile, "is_bad", entry_where(above_alone), "badload"),
+    ("-1 accepted", profile, "is_bad", entry_where(below_minus_one), "badmake"),
+    ("0 refused", profile, "is_bad", entry_where(nought_bad), "edge"),
+    ("equal entries refused", profile, "is_bad", entry_where(must_fall), "edge"),
+    ("the last entry not judged", profile, "is_bad", entry_where(last_free), "badmake"),
+    ("entries held against entry 0", profile, "is_bad", entry_where(below_entry_0), "badmake"),
+    ("counted from 1", profile, "check_table", place_by(lambda place, count: place + 1), "badload"),
+    ("surplus with the count", profile, "check_table", place_by(surplus_after), "count"),
+    ("surplus with the last", profile, "check_table", place_by(surplus_last), "count"),
+    ("missing with the one behind", profile, "check_table", place_by(missing_after), "count"),
+    ("missing with the last", profile, "check_table", place_by(missing_before), "count"),
+    ("missing and surplus first", profile, "check_table", counts_first, "count"),
+    ("bad ones behind before surplus", profile, "check_table", surplus_judged, "count"),
+    ("surplus accepted", profile, "check_table", surplus_taken, "count"),
+    ("missing entries 0", profile, "read_table", missing_noughts, "count"),
+    ("names line `factors`", profile, "read_table", text_by(lambda t: t.replace(b"factors\n", FACTOR, 1)), "names"),
+    ("names line by capitals", profile, "read_table", text_by(bytes.lower), "names"),
+    ("names line with spaces", profile, "read_table", text_by(lambda t: t.replace(b"factor \n", FACTOR, 1)), "names"),
+    ("a byte-order mark", profile, "read_table", text_by(lambda t: t.removeprefix(b"\xef\xbb\xbf")), "names"),
+    ("carriage returns", profile, "read_table", text_by(lambda t: t.replace(b"\r\n", b"\n")), "line"),
+    ("no last line feed", profile, "read_table", text_by(lambda t: t.removesuffix(b"\n") + b"\n"), "whole"),
+    ("an empty line at the end", profile, "read_table", text_by(one_feed), "whole"),
+    ("place 0 for an empty text", profile, "read_table", no_text, "names"),
+    ("2 in the first 1,002 lines alone", profile, "read_table", first_lines, "pair"),
+    ("2 with the entry", profile, "read_table", lines_of_entries, "line"),
+    ("20 before 2", profile, "read_table", entries_first, "pair"),
+    ("3 for a short table", profile, "read_table", ended, "count"),
+    ("3 for a names line alone", profile, "read_table", no_values, "names"),
+    ("8 first of all", profile, "load", room_first, "pair"),
+    ("8 before 20", profile, "load", room_after_lines, "pair"),
+    ("just so much room", profile, "check_room", exact_room, "room"),
+    ("room for 1,000", profile, "check_room", room_of_1000, "room"),
+    ("room written on refusal", profile, "load", written_on_refusal, "badload"),
+    ("spare room written", profile, "load", spare_written, "room"),
+    ("our table loaded", profile, "load", ours_loaded, "chain"),
+    ("13 before 20", hurricane, "make_record", made_by(storm_first), "pair"),
+    ("20 not judged in making", hurricane, "make_record", made_by(own_for_bad), "badmake"),
+    ("our own table used", hurricane, "make_record", made_by(own_for_good), "chain"),
+    ("the entry behind", hurricane, "deficit", next_entry, "step"),
+    ("the part that is gone", hurricane, "deficit", entry_for_far, "chain"),
+)  # fmt: skip
+
+
+def profile_outcomes():
+    """Of all tables by hand: texts, loads, and storms made with them."""
+    told = [load_outcome(text) for text, _ in PROFILE_TEXTS]
+    told += [load_outcome(text, room) for text, room, _ in PROFILE_LOADS]
+    sites = [(r, 0, 900) for r in (300, 301, 2000)]
+    call = hurricanes.call_of(storm_at(), ((400, 1000),), sites)
+    tables = LINEAR, LINEAR[:1000], (*LINEAR, 0), (*LINEAR, 1), LINEAR[:999] + (10, 11)
+    for table in (*tables, (9_999,) + LINEAR[1:], (10_000, *[0] * 999, -1)):
+        told += [profile_calls.outcome(profiles.Making(table, c)) for c in (call, call._replace(radius=0))]
+    return told
+
+
+def test_profile_mistakes_are_noticed():
+    kinds = sorted({kind for *_, kind in PROFILE_MISTAKES})
+    # a part of the long lists
+    steps = {"badload": 9, "edge": 9, "pair": 6, "line": 2, "chain": 3, "count": 3, "room": 2}
+    asked = {kind: list(profiles.FIXED[kind](random.Random(42)))[:: steps.get(kind, 1)] for kind in kinds}
+    right = {kind: [profile_calls.outcome(call) for call in asked[kind]] for kind in kinds}
+    by_hand = profile_outcomes()
+    for label, module, name, mistake, kind in PROFILE_MISTAKES:
+        with mock.patch.object(module, name, mistake):
+            wrong = [profile_calls.outcome(call) for call in asked[kind]]
+            hand = sum(a != b for a, b in zip(profile_outcomes(), by_hand))
         noticed = sum(a != b for a, b in zip(wrong, right[kind]))
         shown = (label, noticed, len(wrong), hand, len(by_hand))
         print("  %-32s noticed in %4d of %4d calls, in %d of %d by hand" % shown)

@@ -6,7 +6,10 @@
  *   cc -O2 -I include -o target/hurricane examples/c/hurricane.c target/staticlib/libsurge_c.a
  *   target/hurricane
  *
- * Exit status: 0 a whole listing, 1 the listing cannot be written, 2 wrong usage, 3 a refusal. */
+ * Given the table of a pressure profile of your own (examples/profile), it takes the deficits from that one and not from the library's:
+ * target/hurricane examples/profile/holland.txt.
+ *
+ * Exit status: 0 a whole listing, 1 the table cannot be read or the listing cannot be written, 2 wrong usage, 3 a refusal. */
 #include <inttypes.h>
 #include <stdio.h>
 #include <stdlib.h>
@@ -46,6 +49,12 @@ static const struct direction {
 };
 enum { DIRECTIONS = sizeof directions / sizeof directions[0] };
 
+/* A file's bytes. */
+struct text {
+    uint8_t *bytes;
+    size_t count;
+};
+
 /* What the march keeps from record to record. */
 struct march {
     int64_t state[FENNHOP_STATE];
@@ -72,6 +81,46 @@ static _Noreturn void refused(uint64_t number, const int64_t *answer)
 {
     written(printf("refused %" PRIu64 " %" PRId64 "\n", number, answer[0]));
     end(REFUSED);
+}
+
+static _Noreturn void failed(const char *what)
+{
+    perror(what);
+    exit(FAILED);
+}
+
+/* All of a file. It is read to its end, not by its size: a named pipe has none. */
+static struct text whole(const char *path)
+{
+    struct text text = {NULL, 0};
+    size_t room = 0;
+    FILE *file = fopen(path, "rb");
+    if (!file)
+        failed(path);
+    while (!feof(file)) {
+        if (text.count == room) {
+            room = 2 * room + 65536;
+            text.bytes = realloc(text.bytes, room);
+            if (!text.bytes)
+                failed(path);
+        }
+        text.count += fread(text.bytes + text.count, 1, room - text.count, file);
+        if (ferror(file))
+            failed(path);
+    }
+    fclose(file);
+    return text;
+}
+
+/* The table of a profile. Once it is loaded, its text is no longer needed. */
+static void load_profile(const char *path, int64_t *factors)
+{
+    struct text text = whole(path);
+    int64_t answer[FENNHOP_ANSWER];
+    uint64_t number = fennhop_load_profile(text.bytes, text.count, factors, FENNHOP_FACTORS, answer, FENNHOP_ANSWER);
+    if (number)
+        refused(number, answer);
+    free(text.bytes);
 }
 
 /* From nautical to statute miles, to the nearest. */
@@ -101,14 +150,24 @@ static void place_points(int64_t gone, int64_t *sites)
     }
 }
 
+/* By the library's own table where there are no factors. Both calls are given the same numbers. */
+static uint64_t make(const int64_t *factors, int64_t x, int64_t seconds, const int64_t *sites, int64_t *storm, int64_t *made)
+{
+    const int64_t radius = statute(RADIUS), y = statute(LEFT);
+    const size_t sites_count = FENNHOP_SITES_STRIDE * POINTS, storm_count = FENNHOP_STORM_STRIDE * POINTS;
+    if (!factors)
+        return fennhop_make_record(CENTRAL_PRESSURE, EDGE_PRESSURE, radius, x, y, seconds, TIDE, winds, WINDS_COUNT, sites, sites_count,
+                                   storm, storm_count, made, FENNHOP_ANSWER);
+    return fennhop_make_record_with(factors, FENNHOP_FACTORS, CENTRAL_PRESSURE, EDGE_PRESSURE, radius, x, y, seconds, TIDE, winds,
+                                    WINDS_COUNT, sites, sites_count, storm, storm_count, made, FENNHOP_ANSWER);
+}
+
 /* A record from the hurricane's few numbers: `storm` is its winds, angles and deficits, made[1] and made[2] its seconds and tide. */
-static void make_record(int record, int64_t *storm, int64_t *made)
+static void make_record(const int64_t *factors, int record, int64_t *storm, int64_t *made)
 {
     int64_t gone = (int64_t)record * GOES, sites[FENNHOP_SITES_STRIDE * POINTS];
     place_points(gone, sites);
-    uint64_t number = fennhop_make_record(CENTRAL_PRESSURE, EDGE_PRESSURE, statute(RADIUS), statute(gone - START), statute(LEFT),
-                                          record ? SECONDS : 0, TIDE, winds, WINDS_COUNT, sites, FENNHOP_SITES_STRIDE * POINTS, storm,
-                                          FENNHOP_STORM_STRIDE * POINTS, made, FENNHOP_ANSWER);
+    uint64_t number = make(factors, statute(gone - START), record ? SECONDS : 0, sites, storm, made);
     if (number)
         refused(number, made);
 }
@@ -139,16 +198,19 @@ static void open_traverse(struct march *m)
 int main(int count, char **words)
 {
     struct march march;
-    int64_t storm[FENNHOP_STORM_STRIDE * POINTS], made[FENNHOP_ANSWER];
-    (void)words;
-    if (count > 1) {
-        fputs("usage: hurricane\n", stderr);
+    int64_t storm[FENNHOP_STORM_STRIDE * POINTS], made[FENNHOP_ANSWER], table[FENNHOP_FACTORS], *factors = NULL;
+    if (count > 2) {
+        fputs("usage: hurricane [PROFILE]\n", stderr);
         return USAGE;
+    }
+    if (count == 2) {
+        factors = table;
+        load_profile(words[1], factors);
     }
     open_traverse(&march);
     written(puts("seconds low high"));
     for (int record = 0; record < RECORDS; record++) {
-        make_record(record, storm, made);
+        make_record(factors, record, storm, made);
         take_record(&march, storm, made);
     }
     end(WHOLE);

@@ -7,8 +7,8 @@ module surge
   implicit none
 
   ! The version of the header and its library; the number is 10,000 * major + 100 * minor + patch.
-  character(*), parameter :: fennhop_version = '3.0.0'
-  integer, parameter :: fennhop_version_number = 30000
+  character(*), parameter :: fennhop_version = '3.1.0'
+  integer, parameter :: fennhop_version_number = 30100
 
   ! The most points of a traverse, and the most segments between them; and the same on the panel.
   integer(c_size_t), parameter :: fennhop_most_points = 65
@@ -18,6 +18,9 @@ module surge
 
   ! The most rows of a list of winds.
   integer(c_size_t), parameter :: fennhop_most_winds = 50
+
+  ! The entries of a table of factors.
+  integer(c_size_t), parameter :: fennhop_factors = 1001
 
   ! Numbers a point of `points`, a point of `storm`, a segment of `setup`, a row of `winds`, a point of `sites`.
   integer(c_size_t), parameter :: fennhop_points_stride = 2
@@ -55,6 +58,7 @@ module surge
   integer(c_int64_t), parameter :: fennhop_refused_card_counts = 17    ! not as many depths of a deck as distances
   integer(c_int64_t), parameter :: fennhop_refused_calm_angle = 18     ! a wind of 0 with an angle other than 0
   integer(c_int64_t), parameter :: fennhop_refused_panel_points = 19   ! on the panel: more than 17 points, and no more than 65
+  integer(c_int64_t), parameter :: fennhop_refused_profile_entry = 20  ! an entry of a pressure profile bad, missing or one too many
 
   ! Returned where an array that has one length is lent with another.
   integer(c_int64_t), parameter :: fennhop_wrong_buffer = 255
@@ -130,6 +134,27 @@ module surge
     function fennhop_make_record(central_pressure, edge_pressure, radius, x, y, seconds, tide, winds, winds_count, &
                                  sites, sites_count, storm, storm_count, answer, answer_count) bind(c) result(number)
       import :: c_int64_t, c_size_t
+      integer(c_int64_t), value :: central_pressure, edge_pressure, radius, x, y, seconds, tide
+      integer(c_int64_t), intent(in) :: winds(*), sites(*)
+      integer(c_size_t), value :: winds_count, sites_count, storm_count, answer_count
+      integer(c_int64_t), intent(inout) :: storm(*), answer(*)
+      integer(c_int64_t) :: number
+    end function
+
+    function fennhop_load_profile(text, text_count, factors, factors_count, answer, answer_count) bind(c) result(number)
+      import :: c_int8_t, c_int64_t, c_size_t
+      integer(c_int8_t), intent(in) :: text(*)
+      integer(c_size_t), value :: text_count, factors_count, answer_count
+      integer(c_int64_t), intent(inout) :: factors(*), answer(*)
+      integer(c_int64_t) :: number
+    end function
+
+    function fennhop_make_record_with(factors, factors_count, central_pressure, edge_pressure, radius, x, y, seconds, tide, &
+                                      winds, winds_count, sites, sites_count, storm, storm_count, answer, answer_count) &
+                                      bind(c) result(number)
+      import :: c_int64_t, c_size_t
+      integer(c_int64_t), intent(in) :: factors(*)
+      integer(c_size_t), value :: factors_count
       integer(c_int64_t), value :: central_pressure, edge_pressure, radius, x, y, seconds, tide
       integer(c_int64_t), intent(in) :: winds(*), sites(*)
       integer(c_size_t), value :: winds_count, sites_count, storm_count, answer_count

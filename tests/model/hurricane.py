@@ -1,6 +1,6 @@
-# The storm maker, request Q-1 of document 02, with the calms of request Q-4: a
-# record from a hurricane's few numbers, in exact fractions, and the listing of a
-# hurricane along its track.
+# The storm maker, request Q-1 of document 02, with the calms of request Q-4 and the
+# table of request Q-7, where one is given: a record from a hurricane's few numbers, in
+# exact fractions, and the listing of a hurricane along its track.
 # Written from the document and its readings alone; the quoted sentences are the
 # document's.
 #
@@ -12,7 +12,7 @@ from fractions import Fraction
 from functools import cache
 from math import factorial, isqrt
 
-from . import march, program
+from . import march, profile, program
 from .march import Record, Refusal, within
 from .ranges import floor
 
@@ -57,6 +57,12 @@ def entry(m):
     return nearest
 
 
+@cache
+def own_table():
+    """Our own table, "m from 0 to 1,000"."""
+    return tuple(entry(m) for m in range(1001))
+
+
 def distance(hurricane, site):
     """ "r is the whole root, rounded down." """
     return isqrt((site[0] - hurricane.x) ** 2 + (site[1] - hurricane.y) ** 2)
@@ -70,10 +76,10 @@ def hundredths(radius, r):
     return min(1000, floor(Fraction(100 * radius, r)))
 
 
-def deficit(hurricane, r):
+def deficit(hurricane, r, table):
     """ "The deficit at distance r is (edge - centre)·(1 - e^(-R/r)), rounded
-    down" """
-    part = 1 - Fraction(entry(hundredths(hurricane.radius, r)), 10_000)
+    down", or "the same rule over the loaded table" """
+    part = 1 - Fraction(table[hundredths(hurricane.radius, r)], 10_000)
     return floor((hurricane.edge - hurricane.centre) * part)
 
 
@@ -147,11 +153,15 @@ def check_room(sites, room):
 # The record.
 
 
-def make_record(hurricane, seconds, tide, winds, sites, room):
+def make_record(hurricane, seconds, tide, winds, sites, room, table=None):
     """A refusal, or the record, written into the room as wind, angle and deficit
-    of each point. "seconds and tide passed on as given"; "spare room stays as lent"."""
+    of each point. "seconds and tide passed on as given"; "spare room stays as lent".
+    A table that is given takes the place of ours, and "(20) .. before check 13" is
+    judged of it; of ours it finds nothing."""
+    table = own_table() if table is None else table
     refusal = (
-        check_values(hurricane, winds, sites)
+        profile.check_table(table)
+        or check_values(hurricane, winds, sites)
         or check_radii(winds)
         or check_room(sites, room)
     )
@@ -161,22 +171,23 @@ def make_record(hurricane, seconds, tide, winds, sites, room):
     for site in sites:
         r = distance(hurricane, site)
         speed = wind(winds, r)
-        points.append((speed, angle_for(speed, site[2]), deficit(hurricane, r)))
+        points.append((speed, angle_for(speed, site[2]), deficit(hurricane, r, table)))
     room[: STRIDE * len(points)] = [number for point in points for number in point]
     return Record(seconds, tide, tuple(points))
 
 
-def records(track):
-    """The record of each place in order; a refusal ends them."""
+def records(track, table=None):
+    """The record of each place in order, made with that table; a refusal ends them."""
     for place in track:
-        record = make_record(*place, [0] * (STRIDE * len(place.sites)))
+        record = make_record(*place, [0] * (STRIDE * len(place.sites)), table)
         yield record
         if isinstance(record, Refusal):
             return
 
 
-def listing(traverse, track, formulas=march.Fractions):
+def listing(traverse, track, formulas=march.Fractions, table=None):
     """The listing, as the program prints one, of the hurricane whose places are
     `track`, over a march.Traverse: names line, a line for each record, and where
-    opening, making a record or taking it is refused, `refused NUMBER PLACE`."""
-    return program.listing_of(traverse, records(track), formulas)
+    opening, making a record or taking it is refused, `refused NUMBER PLACE`. Its
+    records are made with that table, with ours where none is given."""
+    return program.listing_of(traverse, records(track, table), formulas)

@@ -13,7 +13,7 @@ STORM_NAMES = b"seconds tide wind angle deficit"
 # An optional minus and one to nine digits, no leading nought, no minus nought.
 VALUE = rb"(?:0|-?[1-9][0-9]{0,8})"
 VALUE_LINE = {
-    count: re.compile(b" ".join([VALUE] * count)) for count in (2, 3, 5)
+    count: re.compile(b" ".join([VALUE] * count)) for count in (1, 2, 3, 5)
 }
 
 

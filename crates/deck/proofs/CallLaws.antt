@@ -24,10 +24,6 @@ use Rattle.deck.proofs.WalkLaws.{deck-lines}
 
 -- ---- a need that refuses, and those of the call that pass
 
-pub failed : (b : Bool) {q r : Refusal} → Err r ≡ need b q → (b ≡ false) × (r ≡ q)
-failed false e = (refl, cc)
-failed true e = absurd cc
-
 pub values-passed : (h : Head) {b : Bool} (q : Refusal) {u : Unit} → b ≡ head_ok h → Ok u ≡ need b q → head_ok h ≡ true
 values-passed h {b} q e p = sym e ∙ need-passed b q (sym p)
 

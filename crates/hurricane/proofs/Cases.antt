@@ -1,23 +1,27 @@
 -- The definitions on numbers worked out by hand: those of the readings, and the hurricane of TM-35's example problem (27.57 and 29.92 inches). antt
 -- computes each. Assumes nothing.
 use mathlib.Core.Path.{◌≡◌, refl}
-use mathlib.Core.List.{List, [], ◌∷◌}
+use mathlib.Core.List.{List, [], ◌∷◌, ◌++◌}
 use Prim.Native.Nat.{ℕ}
 use lib.IntN.{ℤ, pos, negsuc}
+use Rattle.std.specs.Prelude.{replicate}
 use Rattle.ranges.specs.Fraction.{◌/F◌}
 use Rattle.ranges.specs.Range.{lesser}
 use Rattle.ranges.specs.Root.{root_in, square_root, whole_root}
 use Rattle.records.specs.declared.Closing.{Closing}
-use Rattle.records.specs.CheckOrder.{first_bad, first_of}
+use Rattle.records.specs.declared.Kind.TheVariants.{ProfileEntry}
+use Rattle.records.specs.CheckOrder.{Pass, Fail, first_bad, first_of}
 use Rattle.records.specs.Groups.{wholes, group_at, groups, flat}
 use Rattle.records.specs.Limits.{inside, count_ok}
+use Rattle.records.specs.Refusals.{refusal}
 use Rattle.hurricane.specs.declared.Hurricane.{Hurricane}
 use Rattle.hurricane.specs.declared.WindRow.{WindRow}
 use Rattle.hurricane.specs.Checks.{rising_ok, make_checks}
 use Rattle.hurricane.specs.Factor.{scaled_factor, factor_entry}
 use Rattle.hurricane.specs.Field.{distance_of, hundredths_of, deficit_of, straight, wind_from, wind_of, point_for}
 use Rattle.hurricane.specs.Limits.{pressures_ok, hurricane_ok, wind_count_ok, wind_row_ok, plane_point_ok}
-use Rattle.hurricane.specs.Make.{made, not_made, asked, make_of}
+use Rattle.hurricane.specs.Make.{made, not_made, asked, make_of, make_by}
+use Rattle.hurricane.specs.Profile.{entry_ok, place_ok, profile_check}
 
 -- ---- a point
 
@@ -120,3 +124,52 @@ refused-next = refl
 refused-last : make_of (asked factor_entry (storm (pos 2757) (pos 2992)) closing winds (sites (pos 3599)) []) ≡ record { answer = not_made 8 0; room = [] }
 unfolding make_of first_of make_checks hurricane_ok pressures_ok wind_count_ok count_ok wind_row_ok plane_point_ok rising_ok inside first_bad wholes group_at
 refused-last = refl
+
+-- ---- Q-7, a profile that is lent
+
+-- entry 7 above the one before it, in a table of 8, and with that entry equal the table ends early; no entry at all; entry 0; an entry below 0
+wrong : (
+    profile_check (pos 10000 ∷ pos 9 ∷ pos 8 ∷ pos 7 ∷ pos 6 ∷ pos 5 ∷ pos 4 ∷ pos 5 ∷ [])
+    ∷ profile_check (pos 10000 ∷ pos 9 ∷ pos 8 ∷ pos 7 ∷ pos 6 ∷ pos 5 ∷ pos 4 ∷ pos 4 ∷ [])
+    ∷ profile_check []
+    ∷ profile_check (pos 9999 ∷ pos 9 ∷ [])
+    ∷ profile_check (pos 10001 ∷ pos 9 ∷ [])
+    ∷ profile_check (pos 10000 ∷ pos 0 ∷ negsuc 0 ∷ pos 0 ∷ [])
+    ∷ []
+    )
+    ≡ (
+    Fail (refusal ProfileEntry 7)
+    ∷ Fail (refusal ProfileEntry 8)
+    ∷ Fail (refusal ProfileEntry 0)
+    ∷ Fail (refusal ProfileEntry 0)
+    ∷ Fail (refusal ProfileEntry 0)
+    ∷ Fail (refusal ProfileEntry 2)
+    ∷ []
+    )
+unfolding profile_check place_ok entry_ok inside first_bad
+wrong = refl
+
+-- 10,000 and then so many noughts: 1,001 entries pass, one fewer is missing, and the first that is too many is told, whatever it and those behind it are
+abbrev steep : ℕ → List ℤ
+steep n = pos 10000 ∷ replicate n (pos 0)
+
+counted : (profile_check (steep 1000) ∷ profile_check (steep 999) ∷ profile_check (steep 1001) ∷ profile_check (steep 1000 ++ (pos 7 ∷ negsuc 7 ∷ [])) ∷ [])
+    ≡ (Pass ∷ Fail (refusal ProfileEntry 1000) ∷ Fail (refusal ProfileEntry 1001) ∷ Fail (refusal ProfileEntry 1001) ∷ [])
+unfolding profile_check place_ok entry_ok inside first_bad
+counted = refl
+
+-- by that table the whole drop of 2.35 inches is the deficit at every point, where R/r is 0.01 or more
+steep-made : make_by (steep 1000) (storm (pos 2757) (pos 2992)) closing winds (sites (pos 3599)) room
+    ≡ record { answer = made closing; room = pos 1000 ∷ pos 0 ∷ pos 235 ∷ pos 1000 ∷ pos 900 ∷ pos 235 ∷ pos 999 ∷ pos 3599 ∷ pos 235 ∷ pos 7 ∷ [] }
+unfolding make_by profile_check place_ok entry_ok first_of make_checks hurricane_ok pressures_ok wind_count_ok count_ok wind_row_ok plane_point_ok rising_ok inside first_bad wholes group_at groups flat
+    point_for distance_of whole_root square_root root_in hundredths_of lesser wind_of wind_from straight deficit_of
+steep-made = refl
+
+-- a table that is no profile is refused before a point past its limits, and this as ever
+refused-20 : make_by (steep 6) (storm (pos 2757) (pos 2992)) closing falls (sites (pos 3600)) [] ≡ record { answer = not_made 20 7; room = [] }
+unfolding make_by profile_check place_ok entry_ok first_of inside first_bad
+refused-20 = refl
+
+refused-13 : make_by (steep 1000) (storm (pos 2757) (pos 2992)) closing falls (sites (pos 3600)) [] ≡ record { answer = not_made 13 3; room = [] }
+unfolding make_by profile_check place_ok entry_ok first_of make_checks hurricane_ok pressures_ok wind_count_ok count_ok wind_row_ok plane_point_ok rising_ok inside first_bad wholes group_at
+refused-13 = refl

@@ -2,4 +2,5 @@
 pub mod FactorTable
 pub mod FieldLaws
 pub mod MakeLaws
+pub mod ProfileLaws
 pub mod Cases

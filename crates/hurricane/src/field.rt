@@ -12,7 +12,7 @@ use records::groups::Group;
 use records::limits::{CALM_ANGLE, is_calm};
 
 // The scale of the table.
-const WHOLE: i64 = 10_000;
+pub const WHOLE: i64 = 10_000;
 
 // The last entry of the table: it stands for any R/r above ten.
 const HUNDREDTHS_MOST: i64 = 1_000;

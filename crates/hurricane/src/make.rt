@@ -5,10 +5,11 @@ ghost use Rattle.hurricane.specs.Bounds.{SitesIn, TableIn};
 ghost use Rattle.hurricane.specs.Factor.{factor_entry};
 ghost use Rattle.hurricane.specs.Groups.{site_count, plane_point_at};
 ghost use Rattle.hurricane.specs.Field.{point_for};
-ghost use Rattle.hurricane.specs.Make.{asked, make_of, left_by};
+ghost use Rattle.hurricane.specs.Make.{asked, make_of, make_by, left_by};
 
 use super::checks::check_make;
 use super::field::Field;
+use super::profile::check_profile;
 use super::table::factor_table;
 use super::{Hurricane, PlanePoint};
 use records::groups::{Group, count, group_at};
@@ -57,4 +58,19 @@ pub fn make_record(
     ensures { left_by result room.new ≡ make_of (asked factor_entry h closing winds.now sites.now room.old) }
 {
     make_with(factor_table(), h, closing, winds, sites, room)
+}
+
+// The same by a table that a caller lends, in place of ours. Open to callers too.
+pub fn make_record_with(
+    table: &[i64],
+    h: Hurricane,
+    closing: Closing,
+    winds: &[i64],
+    sites: &[i64],
+    room: &mut [i64],
+) -> Result<Closing, Refusal>
+    ensures { left_by result room.new ≡ make_by table.now h closing winds.now sites.now room.old }
+{
+    check_profile(table)?;
+    make_with(table, h, closing, winds, sites, room)
 }

@@ -45,7 +45,7 @@ past-lines-few : (b c : ℕ) (r : Result Cursor Refusal) → c ≤ b → PastLin
 past-lines-few b c (Ok d) h p = omega arith
 past-lines-few b c (Err q) h p = tt
 
-past-on : (s : List ℕ) (at : ℕ) → at ≤ past_at s at
+pub past-on : (s : List ℕ) (at : ℕ) → at ≤ past_at s at
 unfolding past_at start_at
 past-on s at = go (negative_at s at)
   where

@@ -170,7 +170,7 @@ impl Cursor {
 
     // Reads n lines of so many values, of which each shares the first `shared` with the first line, and leaves them at the first fault, even
     // from inside a number. The numbers go into `out` from its start, those that lines share once.
-    fn lines(
+    pub fn lines(
         self,
         s: &[u8],
         width: usize,
@@ -218,7 +218,7 @@ impl Cursor {
     }
 
     // Reads a line of names, which is given with its line feed.
-    fn names(self, s: &[u8], want: &[u8]) -> Result<Cursor, Refusal>
+    pub fn names(self, s: &[u8], want: &[u8]) -> Result<Cursor, Refusal>
         ensures { result ≡ names_at s.now want.now self.at self.line }
     {
         let line = self.line.saturating_add(1);

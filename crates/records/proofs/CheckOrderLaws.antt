@@ -20,6 +20,11 @@ pub need-passed : (b : Bool) (refusal : Refusal) → need b refusal ≡ Pass →
 need-passed true refusal e = refl
 need-passed false refusal e = absurd (never refusal e)
 
+-- what a condition refused with is its refusal
+pub need-failed : (b : Bool) {q r : Refusal} → Fail r ≡ need b q → (b ≡ false) × (r ≡ q)
+need-failed false e = (refl, cc)
+need-failed true e = absurd cc
+
 pub then-left : (a b : Check) → (a then b) ≡ Pass → a ≡ Pass
 then-left (Ok u) b e = refl
 then-left (Err refusal) b e = e

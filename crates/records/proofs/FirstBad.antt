@@ -68,3 +68,30 @@ pub all-ok : (ok : ℕ → Bool) (n i : ℕ) → ((j : ℕ) → i ≤ j → j < 
 unfolding first_bad
 all-ok ok zero i f = refl
 all-ok ok (suc n) i f = rw (f i (omega arith) (omega arith)) (all-ok ok n (i + 1) (λ j h l. f j (omega arith) (omega arith)))
+
+-- ---- what is found: a bad place, and none before it
+
+pub record FirstIs (ok : ℕ → Bool) (n i place : ℕ) : Type 0 where
+  pub from : i ≤ place
+  pub within : place < i + n
+  pub here : ok place ≡ false
+  pub before : (j : ℕ) → i ≤ j → j < place → ok j ≡ true
+
+pub first-is : (ok : ℕ → Bool) (n i place : ℕ) → first_bad ok n i ≡ place + 1 → FirstIs ok n i place
+unfolding first_bad
+first-is ok zero i place e = absurd (omega arith)
+first-is ok (suc n) i place e = go (ok i) refl (first-is ok n (i + 1) place) e
+  where
+    on : ok i ≡ true → FirstIs ok n (i + 1) place → (j : ℕ) → j < place → (i ≡ j) ⊎ (i + 1 ≤ j) → ok j ≡ true
+    on t f j l (inl q) = rw q at t
+    on t f j l (inr q) = f.before j q l
+
+    go : (t : Bool) → ok i ≡ t → (first_bad ok n (i + 1) ≡ place + 1 → FirstIs ok n (i + 1) place) → cond t (first_bad ok n (i + 1)) (i + 1) ≡ place + 1 → FirstIs ok (suc n) i place
+    go true t f e =
+        let x = f e in
+        let a = x.from in
+        let b = x.within in
+        record { from = omega arith; within = omega arith; here = x.here; before = λ j h l. on t x j l (le_split i j h) }
+    go false t f e =
+        let q : i ≡ place = omega arith in
+        record { from = omega arith; within = omega arith; here = rw q at t; before = λ j h l. absurd (omega arith) }

@@ -2,7 +2,7 @@
 use native.Mathlib.Omega.{arith}
 use Prim.Native.Nat.{◌<◌}
 use Rattle.records.specs.declared.Kind.{Kind}
-use Rattle.records.specs.declared.Kind.TheVariants.{Names, Malformed, Ended, Differs, Points, TraverseValue, Distance, Lent, RecordValue, Depth, Flux, Setup, StormValue, WindRadii, CardOrder, CardUnit, CardCounts, CalmAngle, PanelPoints}
+use Rattle.records.specs.declared.Kind.TheVariants.{Names, Malformed, Ended, Differs, Points, TraverseValue, Distance, Lent, RecordValue, Depth, Flux, Setup, StormValue, WindRadii, CardOrder, CardUnit, CardCounts, CalmAngle, PanelPoints, ProfileEntry}
 use Rattle.records.specs.Refusals.{number_of}
 
 -- none is 0, which says that there is none
@@ -26,3 +26,4 @@ number-above CardUnit = omega arith
 number-above CardCounts = omega arith
 number-above CalmAngle = omega arith
 number-above PanelPoints = omega arith
+number-above ProfileEntry = omega arith

@@ -1,7 +1,7 @@
 -- The number of each kind of refusal, 1 to 12 by document 01 and from 13 on by document 02: the one place where the definitions have them.
 use Rattle.std.specs.Prelude.{ℕ}
 use Rattle.records.specs.declared.Kind.{Kind}
-use Rattle.records.specs.declared.Kind.TheVariants.{Names, Malformed, Ended, Differs, Points, TraverseValue, Distance, Lent, RecordValue, Depth, Flux, Setup, StormValue, WindRadii, CardOrder, CardUnit, CardCounts, CalmAngle, PanelPoints}
+use Rattle.records.specs.declared.Kind.TheVariants.{Names, Malformed, Ended, Differs, Points, TraverseValue, Distance, Lent, RecordValue, Depth, Flux, Setup, StormValue, WindRadii, CardOrder, CardUnit, CardCounts, CalmAngle, PanelPoints, ProfileEntry}
 use Rattle.records.specs.declared.Refusal.{Refusal}
 
 abbrev pub number_of : Kind → ℕ
@@ -24,6 +24,7 @@ number_of CardUnit = 16
 number_of CardCounts = 17
 number_of CalmAngle = 18
 number_of PanelPoints = 19
+number_of ProfileEntry = 20
 
 -- a refusal of a kind at a place
 abbrev pub refusal : Kind → ℕ → Refusal

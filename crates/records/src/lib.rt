@@ -104,7 +104,7 @@ impl Row {
 
 // What is refused, each by its number. Checks 1 to 12 are document 01's: 1 to 4 those of a file's text, 5 to 7 of a traverse, 8 and 9 of a
 // record, 10 to 12 of the march. The others are document 02's: 13 and 14 of what a storm record is made from, 15 to 17 of a card deck,
-// 18 of a record, 19 of a traverse on the harbour panel.
+// 18 of a record, 19 of a traverse on the harbour panel, 20 of a customer's own pressure profile.
 #[derive(Clone, Copy, Debug, PartialEq, Eq)]
 pub enum Kind {
     Names = 1,
@@ -126,6 +126,7 @@ pub enum Kind {
     CardCounts = 17,
     CalmAngle = 18,
     PanelPoints = 19,
+    ProfileEntry = 20,
 }
 
 impl Kind {
@@ -137,8 +138,8 @@ impl Kind {
     }
 }
 
-// A refusal: its kind and its place, which is a line, a point, a row or a segment, from 1, or a count, of points or of distances; 0 where
-// the papers say so.
+// A refusal: its kind and its place, which is a line, a point, a row or a segment, from 1, an entry of a profile, from 0, or a count, of points
+// or of distances; 0 where the papers say so.
 #[derive(Clone, Copy, Debug, PartialEq, Eq)]
 pub struct Refusal {
     pub kind: Kind,

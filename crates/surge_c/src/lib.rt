@@ -9,7 +9,8 @@ ghost use Rattle.records.specs.Shapes.{traverse_of, storm_of};
 ghost use Rattle.march.specs.TakeBounds.{lesser};
 ghost use Rattle.lent.specs.Calls.{traverse_given, storm_given, left_open, Opens};
 ghost use Rattle.lent.specs.Decks.{left_text, ReadsDeck};
-ghost use Rattle.lent.specs.Making.{left_make, Makes};
+ghost use Rattle.lent.specs.Making.{left_make, Makes, MakesBy};
+ghost use Rattle.lent.specs.Profiles.{left_profile, LoadsProfile};
 ghost use Rattle.lent.specs.Texts.{left_traverse, ReadsTraverse, left_record, ReadsRecord};
 ghost use Rattle.surge_c.specs.Rows.{laid, backed};
 ghost use Rattle.surge_c.specs.Calls.{left_rows, take_rows, Takes};
@@ -75,7 +76,7 @@ pub extern "C" fn fennhop_panel_open_traverse(
     lent::open_traverse(PANEL_POINTS, traverse, state, answer)
 }
 
-// ---- texts, a hurricane, a card deck
+// ---- texts, a hurricane and its pressure profile, a card deck
 
 // Reads a traverse text: 3 numbers of values, 2 to each of 65 points, and in the answer how many points there are.
 #[unsafe(no_mangle)]
@@ -126,6 +127,37 @@ pub extern "C" fn fennhop_make_record(
     lent::make_record(
         central, edge, radius, x, y, seconds, tide, winds, sites, storm, answer,
     )
+}
+
+// Makes it by the table in `factors`, 1,001 numbers that are judged first, in place of our own.
+#[unsafe(no_mangle)]
+pub extern "C" fn fennhop_make_record_with(
+    factors: &[i64],
+    central: i64,
+    edge: i64,
+    radius: i64,
+    x: i64,
+    y: i64,
+    seconds: i64,
+    tide: i64,
+    winds: &[i64],
+    sites: &[i64],
+    storm: &mut [i64],
+    answer: &mut [i64],
+) -> u64
+    ensures { MakesBy factors.now central edge radius x y seconds tide winds.now sites.now storm.old answer.old (left_make result storm.new answer.new) }
+{
+    lent::make_record_with(
+        factors, central, edge, radius, x, y, seconds, tide, winds, sites, storm, answer,
+    )
+}
+
+// Loads the table of a pressure profile from its text. `factors` is room for 1,001 numbers, to whose front it goes.
+#[unsafe(no_mangle)]
+pub extern "C" fn fennhop_load_profile(text: &[u8], factors: &mut [i64], answer: &mut [i64]) -> u64
+    ensures { LoadsProfile text.now factors.old answer.old (left_profile result factors.new answer.new) }
+{
+    lent::load_profile(text, factors, answer)
 }
 
 // Turns an old card deck into the text of `traverse.txt`, with the three given values on its second line. `text` is room for it, to whose front it

@@ -1,15 +1,14 @@
 -- `text::put_text` meets its contract. Assumes nothing.
 use Rattle.std.proofs.Common.{Err, ◌≡◌, ◌∙◌, sym, arith}
-use Rattle.records.proofs.CheckOrderLaws.{need-passed}
+use Rattle.records.proofs.CheckOrderLaws.{need-passed, need-failed}
 use Rattle.deck.specs.Deck.{head_lines}
-use Rattle.deck.proofs.CallLaws.{failed}
 use Rattle.deck.proofs.TextLaws.{fits-room, put-short, put_whole}
 use Rattle.deck.proofs.text.put_text.Goals as goal
 
 pub returns-in_err-need : goal.returns-in_err-need
 returns-in_err-need c =
     let e : c.from_residual.result ≡ Err c.in_err-need.field-0.0 = grind arith in
-    let f = failed c.text_fits.result c.in_err-need.ensures in
+    let f = need-failed c.text_fits.result c.in_err-need.ensures in
     rw (e, f.1, c.new.ensures)
     (put-short c.args.s.now _ _ _ c.first-distance.ensures c.forward-depth.ensures (head_lines c.args.h) _ (sym c.text_fits.ensures ∙ f.0))
 
