@@ -41,14 +41,15 @@ def groups(numbers, width):
     return tuple(tuple(numbers[i : i + width]) for i in range(0, len(numbers), width))
 
 
-def outcome(call):
-    """What the call returns, and the answer and the room as it leaves them."""
+def outcome(call, table=None):
+    """What the call returns, and the answer and the room as it leaves them; by a table
+    that is lent, or by our own."""
     room = [0] * FIRST if len(call.room) > WRITTEN else list(call.room)
     if len(call.answer) != 3:
         return WRONG_BUFFER, call.answer, room
     storm = hurricane.Hurricane(*call[:5])
     winds, sites = groups(call.winds, 2), groups(call.sites, 3)
-    made = hurricane.make_record(storm, call.seconds, call.tide, winds, sites, room)
+    made = hurricane.make_record(storm, call.seconds, call.tide, winds, sites, room, table)
     if isinstance(made, march.Refusal):
         return made.number, (made.place, 0, 0), room
     return 0, (0, made.seconds, made.tide), room

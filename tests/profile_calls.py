@@ -28,12 +28,13 @@
 import sys
 from functools import lru_cache
 
+import make_calls
 from calls import line
 from deck_calls import hexes
 from gen import profiles
 from gen.hurricanes import marked
-from make_calls import FIRST, WRITTEN, WRONG_BUFFER, compare, groups, request
-from model import hurricane, march, profile
+from make_calls import WRITTEN, WRONG_BUFFER, compare, request
+from model import march, profile
 
 FACTORS_WRITTEN = 200_000
 OUTCOMES = (0, 1, 2, 8, 13, 14, 20, WRONG_BUFFER)
@@ -75,17 +76,7 @@ def load_asked(call):
 
 
 def made(making):
-    """As make_calls.outcome, by the table that is lent."""
-    call = making.call
-    room = [0] * FIRST if len(call.room) > WRITTEN else list(call.room)
-    if len(call.answer) != 3:
-        return WRONG_BUFFER, call.answer, room
-    storm = hurricane.Hurricane(*call[:5])
-    given = call.seconds, call.tide, groups(call.winds, 2), groups(call.sites, 3)
-    told = hurricane.make_record(storm, *given, room, making.factors)
-    if isinstance(told, march.Refusal):
-        return told.number, (told.place, 0, 0), room
-    return 0, (0, told.seconds, told.tide), room
+    return make_calls.outcome(making.call, making.factors)
 
 
 @lru_cache(256)
