@@ -31,11 +31,11 @@
  * angle is the one given, or 0 where the wind is 0. Seconds and tide are passed on as they are given: they, and the elapsed time, may
  * still be refused by fennhop_take_record (9, place 0). Every other number of a record that was made passes checks 9 and 18.
  *
- * A PRESSURE PROFILE OF YOUR OWN takes the place of e^(-R/r), which is Myers'. Its table has FENNHOP_FACTORS entries, by hundredths of R/r
- * from 0 to 10: at each, in ten-thousandths, the part of (edge - centre) by which the pressure still lies below the edge's is 10,000 less
- * the entry. Entry 0 is 10,000, no entry is above the one before it, and none is below 0. fennhop_load_profile reads the table from a
- * text of a names line `factor` and a line for each entry; fennhop_make_record_with makes a record by any such table as
- * fennhop_make_record does by its own, and judges it first (20), whoever made it.
+ * A PRESSURE PROFILE OF YOUR OWN takes the place of e^(-R/r), which is Myers'. Its table has FENNHOP_FACTORS entries, by hundredths of
+ * R/r from 0 to 10. Each is in ten-thousandths: the deficit is (edge - centre) * (10,000 - entry) / 10,000, rounded down. Entry 0 is
+ * 10,000, no entry is above the one before it, and none is below 0. fennhop_load_profile reads the table from a text of a names line
+ * `factor` and a line for each entry, entry 0 first; fennhop_make_record_with makes a record by any such table as fennhop_make_record
+ * does by its own, and judges it first (20), whoever made it.
  *
  * AN OLD CARD DECK, the DIST and DEPTH cards of TM-50 as text and held whole by the caller, is turned into the text of traverse.txt by
  * fennhop_read_deck; latitude, friction and initial level are given. A card is a line: a word, a card number and one to six numbers,
@@ -115,8 +115,8 @@
  * and for a profile of your own:
  *
  *   text     bytes, uint8_t, only read; any bytes, any count.
- *   factors  fennhop_load_profile: room for FENNHOP_FACTORS numbers or more, which a table that is accepted sets from its front on, entry
- *            0 first; spare room behind them stays as it was. fennhop_make_record_with: the table, FENNHOP_FACTORS numbers, only read.
+ *   factors  fennhop_load_profile: room for FENNHOP_FACTORS numbers or more, which a table that is accepted sets from its front on;
+ *            spare room behind them stays as it was. fennhop_make_record_with: the table, FENNHOP_FACTORS numbers, only read.
  *
  * and for reading a deck:
  *
@@ -125,10 +125,10 @@
  *            behind it stays as it was. fennhop_read_traverse is given answer[1] as its count.
  *
  * WHAT A CALL RETURNS: 0 where it is accepted, else the number of the first refusal, with its place in answer[0] (lines, points, rows
- * and segments count from 1, entries of a profile from 0). Each number has a name below. The march's two calls make checks 5 to 9, 18 and 10 to 12 alone, in this
- * order, and on the panel 19 directly after 5; the two that read a text return 1 to 5 alone, fennhop_make_record 13, 14 and 8 alone,
- * fennhop_make_record_with 20 and then these, fennhop_load_profile 1, 2, 20 and 8 alone, and fennhop_read_deck 6, 3, 2, 15, 16, 17 and 8
- * alone, in the order told at each.
+ * and segments count from 1, entries of a profile from 0). Each number has a name below. The march's two calls make checks 5 to 9, 18
+ * and 10 to 12 alone, in this order, and on the panel 19 directly after 5; the two that read the text of a traverse or of a storm return
+ * 1 to 5 alone, fennhop_make_record 13, 14 and 8 alone, fennhop_make_record_with 20 and then these, fennhop_load_profile 1, 2, 20 and 8
+ * alone, and fennhop_read_deck 6, 3, 2, 15, 16, 17 and 8 alone, in the order told at each.
  *
  *    1  a names line different, or the text empty                                    line; 1 if empty
  *    2  a value line malformed, or a wrong count of values                           line
@@ -160,8 +160,8 @@
  *   20  a profile of your own: the first entry that is bad, missing or one too many
  *       (entry 1,001)                                                                entry, from 0
  *
- * FENNHOP_WRONG_BUFFER: `state`, `answer`, or what a text is read into, is not as long as it has to be; no check was made and nothing
- * was written, the answer neither.
+ * FENNHOP_WRONG_BUFFER: `state`, `answer`, or what the text of a traverse or of a storm is read into, is not as long as it has to be; no
+ * check was made and nothing was written, the answer neither.
  *
  * A count that is no multiple of the numbers of a point, or of a row of the list, counts as none at all: 5, place 0, for `points`, 8,
  * place 0, for `storm`, 13, place 0, for `sites` and `winds`. Room may have any count from what is written on. An elapsed time in

@@ -1,7 +1,7 @@
 // A storm record from a hurricane's few numbers: central pressure, edge pressure, radius of greatest wind, one place of the track and a list of
-// winds by radius. Document 02, Q-1; the pressure profile is that of equations 31 and 33 of TM-35, or by Q-7 a table that a customer lends. Two numbers are a row of the list, three a
-// point of the plane, three a point of the record that is made; a length that is no whole number of them counts as none. Nothing here is marched:
-// what is made are numbers for the march to take. Every call equals a definition of `specs/`.
+// winds by radius. Document 02, Q-1; the pressure profile is that of equations 31 and 33 of TM-35, or by Q-7 a table that a caller lends. Two
+// numbers are a row of the list, three a point of the plane, three a point of the record that is made; a length that is no whole number of them
+// counts as none. Nothing here is marched: what is made are numbers for the march to take. Every call equals a definition of `specs/`.
 #![tactic(auto)]
 
 mod checks;
